@@ -54,11 +54,7 @@ fn push_chosen(out: &mut Vec<KeyUse>, chosen: bool, one: &KeyUse) -> Result<(), 
 }
 
 // Puts the segments behind others, if they are of a connection that goes on.
-fn push_live(
-    out: &mut Vec<KeyUse>,
-    index: &SessionIndex,
-    one: &KeyUse,
-) -> Result<(), AllocError>
+fn push_live(out: &mut Vec<KeyUse>, index: &SessionIndex, one: &KeyUse) -> Result<(), AllocError>
     requires { HasSession index.now.uses one.now }
     ensures { (others : List Use) → OnOk result (out.new.items ++ others ≡ out.old.items ++ cond (is_live index.now.uses one.now) (one.now ∷ others) others) }
 {

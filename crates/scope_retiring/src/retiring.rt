@@ -23,13 +23,7 @@ fn is_spared(evidence: &Evidence, tables: &Tables, table: &Table, row: &Row) -> 
     all_left(evidence, tables, table, row) && !evidence.doubt()
 }
 
-fn is_free(
-    evidence: &Evidence,
-    tables: &Tables,
-    table: &Table,
-    number: u64,
-    row: &Row,
-) -> bool
+fn is_free(evidence: &Evidence, tables: &Tables, table: &Table, number: u64, row: &Row) -> bool
     ensures { result ≡ is_free evidence.now tables.now table.now number row.now }
 {
     is_unused(evidence, table, number, row) && is_spared(evidence, tables, table, row)
@@ -40,13 +34,7 @@ fn is_free(
 /// packet was passed over that may be a segment; No where a verified segment of a connection that goes on
 /// wants it still; and else Unknown.
 #[tactic(auto, unfolding(book_sessions::specs::Retiring::may_go))]
-pub fn may_go(
-    evidence: &Evidence,
-    tables: &Tables,
-    table: &Table,
-    number: u64,
-    row: &Row,
-) -> MayGo
+pub fn may_go(evidence: &Evidence, tables: &Tables, table: &Table, number: u64, row: &Row) -> MayGo
     ensures { result ≡ may_go evidence.now tables.now table.now number row.now }
 {
     if is_free(evidence, tables, table, number, row) {

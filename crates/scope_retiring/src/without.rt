@@ -86,13 +86,7 @@ pub fn returns_without(
 }
 
 // Whether both sides of these do without the row.
-fn both_without(
-    evidence: &Evidence,
-    table: &Table,
-    number: u64,
-    row: &Row,
-    one: &KeyUse,
-) -> bool
+fn both_without(evidence: &Evidence, table: &Table, number: u64, row: &Row, one: &KeyUse) -> bool
     requires { HasSession evidence.now.uses one.now }
     ensures { result ≡ both_without (wants_row table.now number row.now) evidence.now.uses one.now }
 {
@@ -101,13 +95,7 @@ fn both_without(
 }
 
 // Whether these aren't at the row, or both sides of them do without it.
-fn is_without(
-    evidence: &Evidence,
-    table: &Table,
-    number: u64,
-    row: &Row,
-    one: &KeyUse,
-) -> bool
+fn is_without(evidence: &Evidence, table: &Table, number: u64, row: &Row, one: &KeyUse) -> bool
     requires { HasSession evidence.now.uses one.now }
     ensures { result ≡ (not (is_at_row table.now row.now one.now) || both_without (wants_row table.now number row.now) evidence.now.uses one.now) }
 {
@@ -127,13 +115,7 @@ pub(crate) fn all_without(evidence: &Evidence, table: &Table, number: u64, row: 
 }
 
 // Whether a verified one of these wants the row, and what goes its way doesn't do without it.
-fn is_using(
-    evidence: &Evidence,
-    table: &Table,
-    number: u64,
-    row: &Row,
-    one: &KeyUse,
-) -> bool
+fn is_using(evidence: &Evidence, table: &Table, number: u64, row: &Row, one: &KeyUse) -> bool
     requires { HasSession evidence.now.uses one.now }
     ensures { result ≡ ((is_verified one.now.outcome && wants_row table.now number row.now one.now)
         && not (goes_without (wants_row table.now number row.now) evidence.now.uses one.now)) }

@@ -43,7 +43,7 @@ state_line out one two three four five last asking may peers a b c d e =
     let three_is : three ≡ out ++ ((l ++ k) ++ m) = c ∙ (ap (λ (x : List ℕ). x ++ m) two_is ∙ append_assoc out (l ++ k) m) in
     let four_is : four ≡ out ++ (((l ++ k) ++ m) ++ p) = d ∙ (ap (λ (x : List ℕ). x ++ p) three_is ∙ append_assoc out ((l ++ k) ++ m) p) in
     let words : ((l ++ k) ++ m) ++ p ≡ spaced (last_texts last (asking_texts asking (may ∷ peers))) =
-        append_assoc (l ++ k) m p ∙ (append_assoc l k (m ++ p) ∙ sym (words_are last asking may peers)) in
+    append_assoc (l ++ k) m p ∙ (append_assoc l k (m ++ p) ∙ sym (words_are last asking may peers)) in
     e ∙ (ap (λ (x : List ℕ). x ++ 10 ∷ []) (four_is ∙ ap (λ (x : List ℕ). out ++ x) words) ∙ append_assoc out (spaced (last_texts last (asking_texts asking (may ∷ peers)))) (10 ∷ []))
 
 goes_on : (e : Evidence) (all_tables tables rest : List Table) (t : Table) (before after all : List ℕ) → tables ≡ t ∷ rest → before ++ flat_map (λ t. key_lines e all_tables t 1 t.rows) tables ≡ all

@@ -62,11 +62,7 @@ fn is_answered(live: &[KeyUse], one: &KeyUse) -> bool
         .any(|other| goes_from(&one.destination, &one.source, other))
 }
 
-fn push_unanswered(
-    out: &mut Vec<u8>,
-    evidence: &Evidence,
-    one: &KeyUse,
-) -> Result<(), AllocError>
+fn push_unanswered(out: &mut Vec<u8>, evidence: &Evidence, one: &KeyUse) -> Result<(), AllocError>
     ensures { OnOk result (out.new.items ≡ out.old.items ++ unanswered_line evidence.now one.now) }
 {
     if is_answered(evidence.live(), one) {

@@ -48,13 +48,7 @@ pub(crate) fn last_carrying(
 }
 
 // Whether these ask for the row, and what goes their way doesn't do without it.
-fn asks_still(
-    evidence: &Evidence,
-    table: &Table,
-    number: u64,
-    row: &Row,
-    one: &KeyUse,
-) -> bool
+fn asks_still(evidence: &Evidence, table: &Table, number: u64, row: &Row, one: &KeyUse) -> bool
     requires { HasSession evidence.now.uses one.now }
     ensures { result ≡ asks_still evidence.now table.now number row.now one.now }
 {
