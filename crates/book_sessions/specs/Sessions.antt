@@ -11,6 +11,7 @@ use Rattle.book_segments.specs.Sockets.{same_socket}
 use Rattle.book_segments.specs.Options.{AoFound, Absent, One, Two, WithMd5, find_ao}
 use Rattle.book_segments.specs.Segments.{Segment, Reading, Read, Bad, reading, has, SYN, ACK}
 use Rattle.book_segments.specs.Segments.{FIN, RST, segment_length}
+use Rattle.book_endpoint.specs.States.{number_limit}
 use Rattle.book_endpoint.specs.Verdicts.{Finding}
 use Rattle.book_cmd_check.specs.Captures.{Connection, Stored, connection_between}
 use Rattle.book_cmd_check.specs.declared.given.GivenIsns.{GivenIsns}
@@ -63,16 +64,17 @@ isns_of_connection c = record { own = c.one.isn; peer = Some c.two.isn }
 -- the initial sequence numbers of a segment's connection, by the connections that are held once it
 -- was heard; a SYN without ACK tells its sender's alone (RFC 5925, section 5.2)
 abbrev pub flow_isns : Segment → List Connection → FlowIsns
-flow_isns d held =
-    if (has SYN d && not (has ACK d)) || same_socket d.source d.destination then isns_of_syn d
+flow_isns d held = if has SYN d && not (has ACK d) then isns_of_syn d
+    else if same_socket d.source d.destination then isns_of_syn d
     else unwrap_or (option_map isns_of_connection (connection_between d held)) (isns_of_syn d)
 
--- what the check found of a segment that passes, by the connections that are held then (own)
+-- what the check found of a segment that passes, by the connections that are held then; its numbers
+-- end at the greatest one (own)
 abbrev pub seen_pass : Segment → List Connection → Finding → SeenPass
 seen_pass d held p = record {
   row = p.row;
   first = p.number;
-  after = p.number + segment_length d;
+  after = min (p.number + segment_length d) number_limit;
   isns = flow_isns d held;
 }
 

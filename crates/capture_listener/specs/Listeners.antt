@@ -1,15 +1,13 @@
 -- A listener: how it judges, and what it knows while a capture is heard (own).
-use Rattle.std.specs.Prelude.{◌≡◌, ℕ, ◌⊎◌, List, Option, Some, None, Ok}
+use Rattle.std.specs.Prelude.{◌≡◌, ℕ, ◌⊎◌, List, Ok, option_map}
 use Rattle.book_base.specs.declared.address.Pair.{Pair}
 use Rattle.book_segments.specs.Segments.{Segment}
 use Rattle.book_cmd_check.specs.Captures.{Connection}
-use Rattle.book_endpoint.specs.Verdicts.{Finding}
-use Rattle.book_endpoint.specs.declared.verdict.Passed.{Passed}
-use Rattle.capture_check.specs.Answers.{IsFound}
 use Rattle.capture_listener.specs.declared.outcomes.HeardSegment.{HeardSegment}
 use Rattle.book_sessions.specs.Glimpses.{Opening, glimpsed, openings_after}
 use Rattle.book_sessions.specs.Laps.{Judging, hear_over}
 use Rattle.book_sessions.specs.Listening.{Listened, Listening}
+use Rattle.book_sessions.specs.Sessions.{seen_pass}
 use Rattle.capture_check.specs.declared.flows.Flows.{Flows}
 use Rattle.capture_check.specs.Checkers.{StandsFor}
 use Rattle.capture_listener.specs.Openings.{KeepsOpenings}
@@ -28,15 +26,11 @@ pub record Knows (l : Hearing) (k : Listening) : Type 0 where
   pub guessed : StandsFor l.guessed k.guessed
   pub openings : KeepsOpenings l.openings k.openings
 
--- what is told of a segment that passed is what was found of it; nothing of others (own)
-abbrev pub TellsPass : Option Passed → Option Finding → Type 0
-TellsPass None found = found ≡ None
-TellsPass (Some p) found = (entry : Finding) × (found ≡ Some entry) × IsFound p entry
-
--- the answer is what comes of a segment, and the listener knows what is known after it (own)
-pub record Listens (after : Hearing) (told : HeardSegment) (l : Listened) : Type 0 where
+-- the answer is what comes of a segment and what was found of it, and the listener knows what is
+-- known after it (own)
+pub record Listens (after : Hearing) (told : HeardSegment) (d : Segment) (l : Listened) : Type 0 where
   pub outcome : l.outcome ≡ Ok told.outcome
-  pub pass : TellsPass told.pass l.pass
+  pub pass : told.pass ≡ option_map (seen_pass d l.listening.held) l.pass
   pub knows : Knows after l.listening
 
 -- what is taken to have begun once a segment was seen (own)

@@ -11,6 +11,7 @@ mod lines;
 mod listener;
 mod openings;
 mod outcomes;
+mod passes;
 
 pub use book_cmd_check::GivenIsns;
 pub use book_sessions::SegmentOutcome;

@@ -1,8 +1,6 @@
 //! A listener: what is heard of a capture whose beginning may not have been seen.
-ghost use Rattle.std.specs.Prelude.{◌≡◌, [], false, true, IfOk, None, OnErr, OnOk};
+ghost use Rattle.std.specs.Prelude.{◌≡◌, [], IfOk, OnErr, OnOk};
 ghost use Rattle.book_segments.specs.Segments.{Read};
-ghost use Rattle.book_segments.specs.Sockets.{same_socket};
-ghost use Rattle.capture_check.specs.Expecting.{known_numbers};
 ghost use Rattle.book_cmd_check.specs.Handshakes.{and_given, has_room};
 ghost use Rattle.book_sessions.specs.Listening.{Listening, listen, listening_behind};
 ghost use Rattle.capture_listener.specs.Listeners.{Knows, KnowsStill, Listens};
@@ -11,11 +9,11 @@ use crate::glimpses::{glimpse, note_opening};
 use crate::laps::hear_over;
 use crate::lines::is_unknown;
 use crate::openings::Openings;
-use crate::outcomes::{HeardSegment, by_line, by_seen_line, pass_by_line};
+use crate::outcomes::{HeardSegment, by_line, by_seen_line};
+use crate::passes::seen_pass;
 use ao_base::Steps;
-use book_base::Socket;
 use book_cmd_check::GivenIsns;
-use capture_check::{Connections, KnownConnection};
+use capture_check::Connections;
 use key_table::Tables;
 use std::alloc::{AllocError, Global};
 use std::marker::Model;
@@ -96,16 +94,8 @@ impl Listener {
         self.held.hold(alloc, &self.tables, given)
     }
 
-    /// The numbers of the connection between two sockets whose handshake passed, as the first of them sees it.
-    /// None where no such connection is known, or they are one socket.
-    pub fn known(&self, source: Socket, destination: Socket) -> Option<KnownConnection>
-        ensures known { (k : Listening) → Knows self.now k → same_socket source destination ≡ false → result ≡ known_numbers source destination k.held }
-        ensures one { same_socket source destination ≡ true → result ≡ None }
-    {
-        self.held.known(source, destination)
-    }
-
-    /// What comes of a datagram that was stored at a time, in seconds since 1970: the answer, and what
+    /// What comes of a datagram that was stored at a time, in seconds since 1970, and what the check found of it
+    /// where it is verified: the answer, and what
     /// the listener knows afterwards, are those of the definition, whatever was known. After want of
     /// memory it knows what was known, but perhaps the connection too that the datagram shows to have
     /// begun, or the SYN that it is.
@@ -116,7 +106,7 @@ impl Listener {
         datagram: &Datagram<'_>,
         steps: &mut Steps<L>,
     ) -> Result<HeardSegment, AllocError>
-        ensures heard { (k : Listening) → Knows self.old k → IfOk result (λ told. Listens self.new told (listen self.old.judging k time (Read datagram.now))) }
+        ensures heard { (k : Listening) → Knows self.old k → IfOk result (λ told. Listens self.new told datagram.now (listen self.old.judging k time (Read datagram.now))) }
         ensures still { (k : Listening) → Knows self.old k → OnErr result (KnowsStill self.new self.old.judging k time datagram.now) }
         ensures judging { self.new.judging ≡ self.old.judging }
     {
@@ -141,7 +131,7 @@ impl Listener {
         if !is_unknown(&line) {
             return Ok(HeardSegment {
                 outcome: by_line(&line),
-                pass: pass_by_line(&line),
+                pass: seen_pass(&self.held, datagram, &line),
             });
         }
         let further = hear_over(

@@ -1,16 +1,16 @@
 //! What comes of a segment, by the line of a checker.
 ghost use Rattle.std.specs.Prelude.{◌≡◌};
-ghost use Rattle.capture_listener.specs.Lines.{by_line, by_seen_line, by_unconfirmed, by_verdict, pass_by_line, pass_by_verdict};
+ghost use Rattle.capture_listener.specs.Lines.{by_line, by_seen_line, by_unconfirmed, by_verdict};
 
-use book_endpoint::{Passed, Verdict};
-use book_sessions::SegmentOutcome;
+use book_endpoint::Verdict;
+use book_sessions::{SeenPass, SegmentOutcome};
 use capture_check::CheckLine;
 
 /// What comes of a segment, and what the check found of it where it is verified.
 #[derive(Clone, Copy, Debug, PartialEq, Eq)]
 pub struct HeardSegment {
     pub outcome: SegmentOutcome,
-    pub pass: Option<Passed>,
+    pub pass: Option<SeenPass>,
 }
 
 fn by_verdict(verdict: &Verdict) -> SegmentOutcome
@@ -68,24 +68,5 @@ pub(crate) fn by_seen_line(line: &CheckLine) -> SegmentOutcome
         CheckLine::UnknownNode => SegmentOutcome::NoNode,
         CheckLine::Verdict(verdict, _) => by_unconfirmed(verdict),
         CheckLine::Full(_) => SegmentOutcome::TooMany,
-    }
-}
-
-fn pass_by_verdict(verdict: &Verdict) -> Option<Passed>
-    ensures { result ≡ pass_by_verdict verdict.now }
-{
-    match verdict {
-        Verdict::Pass(passed) => Some(*passed),
-        _ => None,
-    }
-}
-
-/// What the check found of a segment that passes, by the line of a checker.
-pub(crate) fn pass_by_line(line: &CheckLine) -> Option<Passed>
-    ensures { result ≡ pass_by_line line.now }
-{
-    match line {
-        CheckLine::Verdict(verdict, _) => pass_by_verdict(verdict),
-        _ => None,
     }
 }
