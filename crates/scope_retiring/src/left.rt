@@ -131,7 +131,7 @@ fn leaves_table(going: Going, row: &Row, table: &Table, pair: &Pair, from: u64) 
 
 // Whether the peer's table sends without the partners of the row.
 fn leaves_peer(row: &Row, peer: Option<&Table>, pair: &Pair, from: u64) -> bool
-    ensures { result ≡ leaves_peer row.now (option_map (λ t. t.now) peer) pair.now from }
+    ensures { result ≡ leaves_peer row.now (option_map (λ t. t.now) peer.entry) pair.now from }
 {
     match peer {
         None => true,
