@@ -75,13 +75,13 @@ fn reached_among(segment: &SeenSegment, uses: &[KeyUse], places: &[usize]) -> Op
 /// What a segment of the session of this number shows, behind those that were seen.
 pub(crate) fn signs_among(
     uses: &[KeyUse],
-    groups: &[Vec<usize>],
+    groups: &Vec<Vec<usize>>,
     number: usize,
     segment: &SeenSegment,
 ) -> Signs
     requires least { 1 ≤ number }
-    requires most { number ≤ length groups.now }
-    ensures { (numbers : List (Ends × ℕ)) → IsIndexed uses.now (lists_of groups.now) numbers
+    requires most { number ≤ length groups.now.items }
+    ensures { (numbers : List (Ends × ℕ)) → IsIndexed uses.now (lists_of groups.now.items) numbers
         → number_between segment.now.source segment.now.destination uses.now ≡ Some number
         → result ≡ signs_of segment.now uses.now }
 {

@@ -104,12 +104,7 @@ impl SessionIndex {
     {
         match number_of(&self.numbers, segment) {
             Some(number) => {
-                let signs = signs_among(
-                    self.uses.as_slice(),
-                    self.groups.as_slice(),
-                    number,
-                    segment,
-                );
+                let signs = signs_among(self.uses.as_slice(), &self.groups, number, segment);
                 count_known(&mut self.uses, &mut self.groups, number, signs, segment)
             }
             None => count_first(
