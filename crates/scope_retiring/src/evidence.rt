@@ -47,9 +47,10 @@ impl<'a> Evidence<'a> {
         })
     }
 
-    /// Its segments, in the order in which they were first seen.
+    /// Its segments, in the order in which they were first seen, each of a known session.
     pub fn uses(&self) -> &[KeyUse]
-        ensures { result.now ≡ self.now.uses }
+        ensures value { result.now ≡ self.now.uses }
+        ensures known { HaveSessions self.now.uses self.now.uses }
     {
         self.index.uses()
     }

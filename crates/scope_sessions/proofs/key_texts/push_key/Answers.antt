@@ -7,4 +7,4 @@ use Rattle.scope_sessions.proofs.key_texts.push_key.Goals as goal
 pub returns : goal.returns
 returns c =
     key_found c.push_obstacles.result c.args.evidence.now c.args.tables.now c.args.table.now c.args.number c.args.row.now c.last_carrying-last.result c.first_asking-asked.result c.may_go-may.result c.args.out.now.items c.push_found.new.out.items c.push_obstacles.new.out.items
-    (rw c.uses.ensures at c.last_carrying-last.ensures) c.first_asking-asked.ensures c.may_go-may.ensures c.in_ok-push_found.ensures c.push_obstacles.ensures
+    (rw c.uses.ensures.value at c.last_carrying-last.ensures) c.first_asking-asked.ensures c.may_go-may.ensures c.in_ok-push_found.ensures c.push_obstacles.ensures
