@@ -1,5 +1,5 @@
 -- What is left to send with.
-use Rattle.std.proofs.Common.{◌≡◌, ℕ, zero, suc, ◌+◌, ◌-◌, ◌≤◌, ◌<◌, ◌&&◌, ◌||◌, Bool, true, false, not, List, [], ◌∷◌, ◌++◌, length, take, drop, Option, Some, None, refl, sym, ap, ◌∙◌, arith, max, is_some, if◌then◌else◌}
+use Rattle.std.proofs.Common.{◌≡◌, ℕ, zero, suc, ◌+◌, ◌-◌, ◌≤◌, ◌<◌, ◌&&◌, ◌||◌, Bool, true, false, not, List, [], ◌∷◌, ◌++◌, length, take, drop, Option, Some, None, inl, inr, refl, sym, ap, ◌∙◌, arith, max, is_some, if◌then◌else◌}
 use Rattle.std.specs.Prelude.{IfSome, IfNone}
 use Rattle.std.specs.List.{list_all}
 use Rattle.std.proofs.lemmas.List.{append-nil, drop_all}
@@ -37,11 +37,15 @@ rest_by ls low high (Some time) gap none =
     let below = gap.below in
     sym (one_fails (is_covered ls) low (high + 1 - low) time above (omega arith) gap.free)
 
+told_otherwise : (some told : Bool) → some ≡ not told → told ≡ not some
+told_otherwise some true e = rw e refl
+told_otherwise some false e = rw e refl
+
 -- the lifetimes leave no time free
-pub rest_told : (ls : List Lifetime) (from low : ℕ) (l : Lifetime) (o : Option ℕ) (told : Bool) → low ≡ max l.first from → told ≡ not (is_some o)
+pub rest_told : (ls : List Lifetime) (from low : ℕ) (l : Lifetime) (o : Option ℕ) (told : Bool) → low ≡ max l.first from → is_some o ≡ not told
     → IfSome o (IsFirstGap ls low l.last) → IfNone o ((t : ℕ) → low ≤ t → t ≤ l.last → is_covered ls t ≡ true) → told ≡ contain_rest ls from l
 rest_told ls from low l o told is told_is some none =
-    told_is ∙ (ap not (rest_by ls low l.last o some none) ∙ ap (λ (x : ℕ). not (is_some (first_failing (is_covered ls) x (l.last + 1 - x)))) is)
+    told_otherwise (is_some o) told told_is ∙ (ap not (rest_by ls low l.last o some none) ∙ ap (λ (x : ℕ). not (is_some (first_failing (is_covered ls) x (l.last + 1 - x)))) is)
 
 -- ---- the lifetimes that are left
 
