@@ -1,5 +1,5 @@
 -- That the rungs of a session are as many as its table counts.
-use Rattle.std.proofs.Common.{◌≡◌, ℕ, zero, suc, ◌+◌, ◌/◌, ◌==◌, ◌||◌, Bool, true, false, List, [], ◌∷◌, ◌++◌, length, Option, Some, None, Result, Ok, Err, refl, sym, ap, ◌∙◌, arith, append_assoc, cond, if◌then◌else◌}
+use Rattle.std.proofs.Common.{◌≡◌, ℕ, zero, suc, ◌+◌, ◌/◌, ◌==◌, ◌||◌, Bool, true, false, List, [], ◌∷◌, ◌++◌, length, Option, Some, None, Result, Ok, Err, refl, sym, subst, ap, ◌∙◌, arith, append_assoc, cond, if◌then◌else◌}
 use Rattle.std.specs.Prelude.{is_some, option_map, slice_get}
 use Rattle.std.specs.List.{filter, find, list_any}
 use Rattle.std.specs.Option.{option_or, unwrap_or}
@@ -17,6 +17,7 @@ use Rattle.book_sessions.specs.declared.outcome.PassedOver.{PassedOver}
 use Rattle.book_sessions.specs.declared.outcome.PassedOver.TheVariants as passed
 use Rattle.book_sessions.specs.declared.outcome.SegmentOutcome.{SegmentOutcome}
 use Rattle.book_sessions.specs.declared.uses.KeyUse.{KeyUse}
+use Rattle.book_sessions.specs.declared.uses.SeenSegment.{SeenSegment}
 use Rattle.book_sessions.specs.Laps.{Judging}
 use Rattle.book_sessions.specs.Listening.{Listened, Listening, listen, listening_behind}
 use Rattle.book_sessions.specs.Sessions.{SessionTable, and_counted, and_segment, counted_by, no_sessions, seen_as, seen_by, session_of, sessions_from, sessions_of, signs_of, stored_by, with_use}
@@ -235,7 +236,7 @@ said_fits s time d l (Ok said) known rs t others after at later fits =
     let r = rung_heard s.number time d l said in
     let seen : seen_as s l (Read d) (Ok said) ≡ Ok (seen_of r) = rw at refl in
     let more = later (and_session known r) (rs ++ r ∷ []) (and_counted (Ok (seen_of r)) t) (fits_more known t rs fits r) in
-    rw seen (rw (append_assoc rs (r ∷ []) others) at more)
+    subst (λ (x : Result SeenSegment PassedOver). FitsLater known rs (after (and_counted x t)) (r ∷ others)) (sym seen) (rw (append_assoc rs (r ∷ []) others) at more)
 
 bad_fits : (s : Stored) (l : Listened) (fault : DatagramFault) (said : Result SegmentOutcome DatagramFault) (known : List SessionEnds) (rs : List SessionRung) (t : SessionTable) (others : List SessionRung) (after : SessionTable → SessionTable)
     → Later others after → Fits known t.sessions t.uses rs → FitsLater known rs (after (and_counted (seen_as s l (Bad fault) said) t)) others

@@ -1,5 +1,5 @@
 -- A list of uses grown by one segment that shows nothing frees no row.
-use Rattle.std.proofs.Common.{◌≡◌, ◌≤◌, ◌<◌, ℕ, ◌&&◌, ◌||◌, not, max, min, nat_lt, nat_le, Bool, true, false, List, [], ◌∷◌, Option, Some, None, refl, sym, ap, ◌∙◌, arith, if◌then◌else◌}
+use Rattle.std.proofs.Common.{◌≡◌, ◌≤◌, ◌<◌, ℕ, ◌+◌, ◌&&◌, ◌||◌, not, max, min, nat_lt, nat_le, Bool, true, false, List, [], ◌∷◌, Option, Some, None, refl, sym, ap, ◌∙◌, arith, if◌then◌else◌}
 use Rattle.std.proofs.lemmas.Bool.Decides.{nat_tests}
 use Rattle.std.specs.Prelude.{filter, cond}
 use Rattle.std.specs.List.{AllByRecursion, list_all, list_any}
@@ -207,17 +207,12 @@ module _ (t : Table) (n : ℕ) (r : Row) where
   -- what shows nothing moves nothing on
   quiet_moves : (a b : Socket) (vs : List KeyUse) → Grown [] vs → (wanting_by wants a b vs).moved ≡ 0
   quiet_moves a b [] G = refl
-  quiet_moves a b (v ∷ vs) G = at (goes_from a b v) (not (wants v) && is_verified v.outcome)
+  quiet_moves a b (v ∷ vs) G = at (goes_from a b v) (not (wants v) && is_verified v.outcome) (quiet_moves a b vs G.1)
     where
-      others : (wanting_by wants a b vs).moved ≡ 0
-      others = quiet_moves a b vs G.1
-
-      marked : (c : Bool) → with_mark c v.moved (wanting_by wants a b vs).moved ≡ 0
-      marked c = rw (G.0.moved, others) (mark_none c 0)
-
-      at : (g c : Bool) → (if g then record { wanted = with_mark (wants v && is_counted v) v.packet (wanting_by wants a b vs).wanted; moved = with_mark c v.moved (wanting_by wants a b vs).moved } else wanting_by wants a b vs).moved ≡ 0
-      at true c = marked c
-      at false c = others
+      at : (g c : Bool) → (wanting_by wants a b vs).moved ≡ 0
+          → (if g then record { wanted = with_mark (wants v && is_counted v) v.packet (wanting_by wants a b vs).wanted; moved = with_mark c v.moved (wanting_by wants a b vs).moved } else wanting_by wants a b vs).moved ≡ 0
+      at true c others = rw (G.0.moved, others) (mark_none c 0)
+      at false c others = others
 
   less_by : (a b : Socket) (us vs : List KeyUse) → Grown us vs → Less (wanting_by wants a b us) (wanting_by wants a b vs)
   less_by a b [] vs G = let none = quiet_moves a b vs G in record { wanted = omega arith; moved = omega arith }
@@ -355,7 +350,7 @@ yes_if false used e = absurd (cc)
 
 yes_leads : (e f : Evidence) (tables : List Table) (t : Table) (n : ℕ) (r : Row) → Leads (is_free f tables t n r) (is_free e tables t n r) → may_go f tables t n r ≡ go.Yes → may_go e tables t n r ≡ go.Yes
 unfolding may_go
-yes_leads e f tables t n r leads yes = yes_if (is_free e tables t n r) (is_in_use e t n r) (leads (free_if (is_free f tables t n r) (is_in_use f t n r) yes))
+yes_leads e f tables t n r leads told = yes_if (is_free e tables t n r) (is_in_use e t n r) (leads (free_if (is_free f tables t n r) (is_in_use f t n r) told))
 
 pub frees_none : (tables : List Table) (t : Table) (n : ℕ) (r : Row) (latest : ℕ) (table : SessionTable) (s : SeenSegment) (found : Option ℕ) → IsLast s table.uses → signs_of s table.uses ≡ no_signs
     → may_go (evidence_at latest (and_segment found s table)) tables t n r ≡ go.Yes → may_go (evidence_at latest table) tables t n r ≡ go.Yes
@@ -365,5 +360,5 @@ frees_none tables t n r latest table s found last none = at found
     by k = yes_leads _ _ tables t n r (free_leads tables t n r latest (evidence_of table).doubt table.uses (with_use k (signs_of s table.uses) s table.uses) (rw none (grown_by s k table.uses last)))
 
     at : (o : Option ℕ) → may_go (evidence_at latest (and_segment o s table)) tables t n r ≡ go.Yes → may_go (evidence_at latest table) tables t n r ≡ go.Yes
-    at None yes = by (table.sessions + 1) yes
-    at (Some k) yes = by k yes
+    at None told = by (table.sessions + 1) told
+    at (Some k) told = by k told

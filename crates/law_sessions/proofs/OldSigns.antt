@@ -29,6 +29,9 @@ none_passed : (holds : ℕ → SeenPass → Bool) (reached : Option ℕ) → if_
 none_passed holds None = refl
 none_passed holds (Some n) = refl
 
+none_given : (holds : ℕ → SeenPass → Bool) (reached : Option ℕ) (pass : Option SeenPass) → pass ≡ None → if_passed holds reached pass ≡ false
+none_given holds reached pass e = rw e (none_passed holds reached)
+
 all_false : (holds : ℕ → SeenPass → Bool) (reached : Option ℕ) (pass : Option SeenPass) → ((n : ℕ) (p : SeenPass) → reached ≡ Some n → pass ≡ Some p → holds n p ≡ false) → if_passed holds reached pass ≡ false
 all_false holds None pass h = at pass
   where
@@ -70,7 +73,7 @@ module _ (s : SeenSegment) (uses : List KeyUse) where
   pub old_shows : IsOld s uses → signs_of s uses ≡ no_signs
   old_shows (Refused none) =
       nothing_made s.bits.fin (if_passed (λ n p. goes_past n s.bits p) reached s.pass) (if_passed (λ n p. resets_at n s.bits p) reached s.pass)
-      (rw none (none_passed (λ n p. goes_past n s.bits p) reached)) (rw none (none_passed (λ n p. resets_at n s.bits p) reached))
+      (none_given (λ n p. goes_past n s.bits p) reached s.pass none) (none_given (λ n p. resets_at n s.bits p) reached s.pass none)
   old_shows (Syn rst syn) = shows_nothing rst (λ n p e f. syn_stays s.bits n p syn)
   old_shows (AckAlone q rst is low) = shows_nothing rst (λ n p e f. let same = some_is p q (sym f ∙ is) in empty_stays s.bits n p (rw same low))
   old_shows (Copy q m rst is at low) =
