@@ -13,7 +13,9 @@ use Rattle.book_sessions.specs.declared.uses.KeyUse.{KeyUse}
 use Rattle.book_sessions.specs.declared.uses.SeenSegment.{SeenSegment}
 use Rattle.book_sessions.specs.Counts.{no_signs}
 use Rattle.book_sessions.specs.OutcomeTexts.{is_verified}
-use Rattle.book_sessions.specs.Retiring.{Ending, Evidence, Wanting, all_left, all_without, and_ending, asks_for_row, both_without, came_under, carries_row, does_without, ending_by, evidence_of, goes_from, is_at_row, is_counted, is_ended, is_free, is_id, is_in_use, is_live, is_onward, is_outlived, is_return, leaves_use, may_go, sees_peers, sent_by, sent_to, shows_peer, wanting_by, wants_row, with_mark}
+use Rattle.book_sessions.specs.declared.retiring.Ending.{Ending}
+use Rattle.book_sessions.specs.declared.retiring.Wanting.{Wanting}
+use Rattle.book_sessions.specs.Retiring.{Evidence, all_left, all_without, and_ending, asks_for_row, both_without, came_under, carries_row, does_without, ending_by, evidence_of, goes_from, is_at_row, is_counted, is_ended, is_free, is_id, is_in_use, is_live, is_onward, is_outlived, is_return, leaves_use, may_go, sees_peers, sent_by, sent_to, shows_peer, wanting_by, wants_row, with_mark}
 use Rattle.book_sessions.specs.Sessions.{SessionTable, and_segment, first_use, is_use_of, session_of, signs_of, used_again, with_use}
 use Rattle.law_sessions.specs.Old.{IsLast, evidence_at}
 
