@@ -14,7 +14,7 @@ use Rattle.book_sessions.specs.declared.uses.FlowIsns.{FlowIsns}
 use Rattle.book_sessions.specs.declared.uses.SeenSegment.{SeenSegment}
 use Rattle.book_sessions.specs.declared.uses.KeyUse.{KeyUse}
 use Rattle.book_sessions.specs.OutcomeTexts.{outcome_text}
-use Rattle.book_sessions.specs.Sessions.{asked_by, carries_ids_of, goes_as, isns_of, key_id_of, passed_as, row_of, same_flow, same_id, same_outcome, is_use_of}
+use Rattle.book_sessions.specs.Sessions.{asked_by, carries_ids_of, goes_as, isns_of, key_id_of, passed_as, passed_row, same_flow, same_id, same_outcome, is_use_of}
 use Rattle.book_sessions.specs.Counts.{as_checked, is_like, use_as_checked}
 use Rattle.book_sessions.proofs.Hearing.{seen_as_checked}
 use Rattle.book_sessions.proofs.Sums.{IsKind}
@@ -83,7 +83,7 @@ pub record SameKind (s : SeenSegment) (u : KeyUse) : Type 0 where
   pub destination : s.destination ≡ u.destination
   pub key_id : key_id_of s ≡ u.key_id
   pub asked : asked_by s ≡ u.asked
-  pub row : row_of s ≡ u.row
+  pub row : passed_row s ≡ u.row
   pub isns : isns_of s ≡ u.isns
   pub said : same_outcome s.outcome u.outcome ≡ true
 
@@ -94,13 +94,13 @@ kind_parts s u e =
     let others = and_parts (carries_ids_of s u) (same_outcome s.outcome u.outcome && passed_as s u) halves.1 in
     let ids = and_parts (same_id (key_id_of s) u.key_id) (same_id (asked_by s) u.asked) others.0 in
     let ends = and_parts (same_outcome s.outcome u.outcome) (passed_as s u) others.1 in
-    let pass = and_parts (same_id (row_of s) u.row) (same_flow (isns_of s) u.isns) ends.1 in
+    let pass = and_parts (same_id (passed_row s) u.row) (same_flow (isns_of s) u.isns) ends.1 in
     record {
       source = socket_is s.source u.source sockets.0;
       destination = socket_is s.destination u.destination sockets.1;
       key_id = id_is (key_id_of s) u.key_id ids.0;
       asked = id_is (asked_by s) u.asked ids.1;
-      row = id_is (row_of s) u.row pass.0;
+      row = id_is (passed_row s) u.row pass.0;
       isns = flow_is (isns_of s) u.isns pass.1;
       said = ends.0;
     }
@@ -129,11 +129,11 @@ module _ (k : SeenSegment) where
   -- the segment carries these ids, this is said of it, and it passed so
   abbrev fits_rest : (id asked : Option ℕ) → List ℕ → Option ℕ → Option FlowIsns → Bool
   fits_rest id asked text row isns = (same_id (key_id_of k) id && same_id (asked_by k) asked)
-      && (bytes_eq (outcome_text k.outcome) text && (same_id (row_of k) row && same_flow (isns_of k) isns))
+      && (bytes_eq (outcome_text k.outcome) text && (same_id (passed_row k) row && same_flow (isns_of k) isns))
 
   same_kind : (s : SeenSegment) (u : KeyUse) (one two : List ℕ) → SameKind s u → one ≡ two
       → (fits_way u.source u.destination && fits_rest u.key_id u.asked two u.row u.isns)
-      ≡ (fits_way s.source s.destination && fits_rest (key_id_of s) (asked_by s) one (row_of s) (isns_of s))
+      ≡ (fits_way s.source s.destination && fits_rest (key_id_of s) (asked_by s) one (passed_row s) (isns_of s))
   same_kind s u one two same d =
       rw (same.source, same.destination, same.key_id, same.asked, same.row, same.isns, d) refl
 

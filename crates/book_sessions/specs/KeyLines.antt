@@ -12,7 +12,7 @@ use Rattle.book_sessions.specs.declared.retiring.MayGo.{MayGo}
 use Rattle.book_sessions.specs.declared.retiring.MayGo.TheVariants as go
 use Rattle.book_sessions.specs.declared.uses.KeyUse.{KeyUse}
 use Rattle.book_sessions.specs.OutcomeTexts.{is_verified}
-use Rattle.book_sessions.specs.Retiring.{Evidence, asks_for_row, carries_row, goes_from}
+use Rattle.book_sessions.specs.Retiring.{Evidence, all_without, asks_for_row, carries_row, goes_from}
 use Rattle.book_sessions.specs.Retiring.{goes_without, does_without, is_at_row, leaves_use, may_go}
 use Rattle.book_sessions.specs.Retiring.{sent_by, sent_to, wants_row}
 
@@ -118,6 +118,11 @@ lacking_line e tables t r u = if leaves_use tables t r e.latest u then []
     else obstacle_line (codes "without it no row to send with later"
     ∷ usual_address_text u.source.address ∷ usual_address_text u.destination.address ∷ [])
 
+-- the same of all that goes on at a row, once all of it does without the row (own)
+abbrev pub lacking_lines : Evidence → List Table → Table → Row → (without : Bool) → List ℕ
+lacking_lines e tables t r without =
+    if without then flat_map (lacking_line e tables t r) e.live else []
+
 -- packets were passed over that may be segments (own)
 abbrev pub doubt_line : Bool → List ℕ
 doubt_line doubt =
@@ -128,7 +133,7 @@ abbrev pub obstacle_lines : Evidence → List Table → Table → (n : ℕ) → 
 obstacle_lines e tables t n r =
     flat_map (held_line_at e t n r) e.live
     ++ (flat_map (absent_line e t r) r.peers
-    ++ (flat_map (lacking_line e tables t r) e.live ++ doubt_line e.doubt))
+    ++ (lacking_lines e tables t r (all_without e t n r) ++ doubt_line e.doubt))
 
 -- ---- a row
 

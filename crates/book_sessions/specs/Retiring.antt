@@ -142,13 +142,13 @@ ending_by u [] = record { reset = false; onward = 0; back = 0; moved = 0 }
 ending_by u (v ∷ vs) = and_ending u v (ending_by u vs)
 
 -- both sides are finished, and nothing moved on behind that (RFC 9293, section 3.6)
-abbrev pub is_closed : Ending → Bool
-is_closed e = (nat_lt 0 e.onward && nat_lt 0 e.back) && nat_le e.moved (max e.onward e.back)
+abbrev pub both_finished : Ending → Bool
+both_finished e = (nat_lt 0 e.onward && nat_lt 0 e.back) && nat_le e.moved (max e.onward e.back)
 
 -- the connection ended: by a RST at the number expected, or by a FIN of either side (RFC 9293,
 -- sections 3.5.3 and 3.6)
 abbrev pub is_ended : Ending → Bool
-is_ended e = e.reset || is_closed e
+is_ended e = e.reset || both_finished e
 
 -- these may be segments under a key of a connection that goes on (own)
 abbrev pub is_live : List KeyUse → KeyUse → Bool
@@ -217,8 +217,8 @@ leaves_rows gone rows pair from = list_all (λ r. not (sends_for pair r && gone 
     || contain_rest (lifetimes_left gone rows pair) from r.sending) rows
 
 -- the rows have the same ids and the same send lifetime (own)
-abbrev pub is_twin : (one other : Row) → Bool
-is_twin r q = ((q.send_id == r.send_id) && (q.recv_id == r.recv_id))
+abbrev pub is_same_row : (one other : Row) → Bool
+is_same_row r q = ((q.send_id == r.send_id) && (q.recv_id == r.recv_id))
     && ((q.sending.first == r.sending.first) && (q.sending.last == r.sending.last))
 
 -- the peer's row sends what this one takes (RFC 5925, section 3.1)
@@ -233,7 +233,7 @@ leaves_peer r (Some t) pair from = leaves_rows (is_partner r) t.rows pair from
 -- without the row its node sends over these two sockets, and its peer without the row's partners,
 -- whenever they may send now, from a time on (own)
 abbrev pub leaves_both : List Table → Table → Row → Pair → (from : ℕ) → Bool
-leaves_both tables t r pair from = leaves_rows (is_twin r) t.rows pair from
+leaves_both tables t r pair from = leaves_rows (is_same_row r) t.rows pair from
     && leaves_peer r (find (has_address pair.remote.address) tables) (mirrored pair) from
 
 -- the same for what these go between (own)
@@ -285,13 +285,13 @@ all_left e tables t r = list_all (leaves_use tables t r e.latest) e.live
 -- the row may go: each peer that it names was seen in a connection that goes on; both sides of all
 -- of these do without it; the rows that are left send in its place; and no packet was passed over
 -- that may be a segment (own)
-abbrev pub is_free : Evidence → List Table → Table → (n : ℕ) → Row → Bool
-is_free e tables t n r =
+abbrev pub is_dispensable : Evidence → List Table → Table → (n : ℕ) → Row → Bool
+is_dispensable e tables t n r =
     (sees_peers t r e.live && all_without e t n r) && (all_left e tables t r && not e.doubt)
 
 -- whether row number n of a node may go (own)
 unfoldable pub may_go : Evidence → List Table → Table → (n : ℕ) → Row → MayGo
 may_go e tables t n r =
-    if is_free e tables t n r then go.Yes
+    if is_dispensable e tables t n r then go.Yes
     else if is_in_use e t n r then go.No
     else go.Unknown

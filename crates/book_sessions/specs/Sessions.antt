@@ -54,8 +54,8 @@ bits_of d =
     record { syn = has SYN d; ack = has ACK d; fin = has FIN d; rst = has RST d }
 
 -- the initial sequence number that a SYN tells of its sender (RFC 9293, section 3.5)
-abbrev pub isns_of_syn : Segment → FlowIsns
-isns_of_syn d = record { own = d.sequence; peer = None }
+abbrev pub syn_isns : Segment → FlowIsns
+syn_isns d = record { own = d.sequence; peer = None }
 
 -- those of a connection, as its first side sees it (RFC 5925, section 5.2)
 abbrev pub isns_of_connection : Connection → FlowIsns
@@ -64,9 +64,9 @@ isns_of_connection c = record { own = c.one.isn; peer = Some c.two.isn }
 -- the initial sequence numbers of a segment's connection, by the connections that are held once it
 -- was heard; a SYN without ACK tells its sender's alone (RFC 5925, section 5.2)
 abbrev pub flow_isns : Segment → List Connection → FlowIsns
-flow_isns d held = if has SYN d && not (has ACK d) then isns_of_syn d
-    else if same_socket d.source d.destination then isns_of_syn d
-    else unwrap_or (option_map isns_of_connection (connection_between d held)) (isns_of_syn d)
+flow_isns d held = if has SYN d && not (has ACK d) then syn_isns d
+    else if same_socket d.source d.destination then syn_isns d
+    else unwrap_or (option_map isns_of_connection (connection_between d held)) (syn_isns d)
 
 -- what the check found of a segment that passes, by the connections that are held then; its numbers
 -- end at the greatest one (own)
@@ -128,8 +128,8 @@ abbrev pub asked_by : SeenSegment → Option ℕ
 asked_by s = option_map (λ ids. ids.rnext_key_id) s.ids
 
 -- the row under which a segment passed (RFC 5925, section 7.5)
-abbrev pub row_of : SeenSegment → Option ℕ
-row_of s = option_map (λ p. p.row) s.pass
+abbrev pub passed_row : SeenSegment → Option ℕ
+passed_row s = option_map (λ p. p.row) s.pass
 
 -- the initial sequence numbers of the connection of a segment that passed (RFC 5925, section 5.2)
 abbrev pub isns_of : SeenSegment → Option FlowIsns
@@ -145,7 +145,7 @@ carries_ids_of s u = same_id (key_id_of s) u.key_id && same_id (asked_by s) u.as
 
 -- a segment passed under the row of these, in their connection, or none of them passed (own)
 abbrev pub passed_as : SeenSegment → KeyUse → Bool
-passed_as s u = same_id (row_of s) u.row && same_flow (isns_of s) u.isns
+passed_as s u = same_id (passed_row s) u.row && same_flow (isns_of s) u.isns
 
 -- a segment is one of these (own)
 abbrev pub is_use_of : SeenSegment → KeyUse → Bool
@@ -171,16 +171,16 @@ abbrev pub is_flow_of : SeenSegment → KeyUse → Bool
 is_flow_of s u = goes_as s u && (knows_both (isns_of s) && same_flow (isns_of s) u.isns)
 
 -- the greater of a number and of another, if there is one (own)
-abbrev pub further : ℕ → Option ℕ → ℕ
-further n None = n
-further n (Some m) = max n m
+abbrev pub greater_of : ℕ → Option ℕ → ℕ
+greater_of n None = n
+greater_of n (Some m) = max n m
 
 -- how far the segments in front of this one came that passed in its connection and go its way; none
 -- where there are none (RFC 9293, section 3.4)
 abbrev pub reached_before : SeenSegment → List KeyUse → Option ℕ
 reached_before s [] = None
 reached_before s (u ∷ us) = if is_flow_of s u
-    then Some (further u.reached (reached_before s us)) else reached_before s us
+    then Some (greater_of u.reached (reached_before s us)) else reached_before s us
 
 -- the segment takes numbers past those that were reached: it isn't a SYN, nor an ACK alone, nor one
 -- that was seen before (RFC 9293, section 3.4, and own)
@@ -226,7 +226,7 @@ first_use session g s = record {
   key_id = key_id_of s;
   asked = asked_by s;
   outcome = s.outcome;
-  row = row_of s;
+  row = passed_row s;
   isns = isns_of s;
   opens = s.bits.syn && s.bits.ack;
   segments = 1;

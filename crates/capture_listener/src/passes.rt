@@ -4,7 +4,7 @@ ghost use Rattle.book_segments.specs.Segments.{has, segment_length, ACK, SYN};
 ghost use Rattle.book_endpoint.specs.States.{number_limit};
 ghost use Rattle.book_cmd_check.specs.Captures.{Connection, Saying};
 ghost use Rattle.book_sessions.specs.Listening.{pass_of};
-ghost use Rattle.book_sessions.specs.Sessions.{flow_isns, isns_of_syn, seen_pass};
+ghost use Rattle.book_sessions.specs.Sessions.{flow_isns, syn_isns, seen_pass};
 ghost use Rattle.capture_check.specs.Answers.{Says};
 ghost use Rattle.capture_check.specs.Checkers.{StandsFor};
 ghost use Rattle.capture_listener.specs.Lines.{pass_by_line, pass_by_verdict};
@@ -25,8 +25,8 @@ fn is_opening(datagram: &Datagram<'_>) -> bool
     datagram.has(Flag::Syn) && !datagram.has(Flag::Ack)
 }
 
-fn isns_of_syn(datagram: &Datagram<'_>) -> FlowIsns
-    ensures { result ≡ isns_of_syn datagram.now }
+fn syn_isns(datagram: &Datagram<'_>) -> FlowIsns
+    ensures { result ≡ syn_isns datagram.now }
 {
     FlowIsns {
         own: datagram.sequence(),
@@ -49,7 +49,7 @@ fn isns_known(others: FlowIsns, known: Option<KnownConnection>) -> FlowIsns
 fn flow_isns(held: &Connections, datagram: &Datagram<'_>) -> FlowIsns
     ensures { (cs : List Connection) → StandsFor held.now cs → result ≡ flow_isns datagram.now cs }
 {
-    let others = isns_of_syn(datagram);
+    let others = syn_isns(datagram);
     if is_opening(datagram) {
         return others;
     }

@@ -15,7 +15,7 @@ use Rattle.book_sessions.specs.Counts.{no_signs}
 use Rattle.book_sessions.specs.OutcomeTexts.{is_verified}
 use Rattle.book_sessions.specs.declared.retiring.Ending.{Ending}
 use Rattle.book_sessions.specs.declared.retiring.Wanting.{Wanting}
-use Rattle.book_sessions.specs.Retiring.{Evidence, all_left, all_without, and_ending, asks_for_row, both_without, came_under, carries_row, does_without, ending_by, evidence_of, goes_from, is_at_row, is_counted, is_ended, is_free, is_id, is_in_use, is_live, is_onward, is_outlived, is_return, leaves_use, may_go, sees_peers, sent_by, sent_to, shows_peer, wanting_by, wants_row, with_mark}
+use Rattle.book_sessions.specs.Retiring.{Evidence, all_left, all_without, and_ending, asks_for_row, both_without, came_under, carries_row, does_without, ending_by, evidence_of, goes_from, is_at_row, is_counted, is_ended, is_dispensable, is_id, is_in_use, is_live, is_onward, is_outlived, is_return, leaves_use, may_go, sees_peers, sent_by, sent_to, shows_peer, wanting_by, wants_row, with_mark}
 use Rattle.book_sessions.specs.Sessions.{SessionTable, and_segment, first_use, is_use_of, session_of, signs_of, used_again, with_use}
 use Rattle.law_sessions.specs.Old.{IsLast, evidence_at}
 
@@ -335,7 +335,7 @@ module _ (tables : List Table) (t : Table) (n : ℕ) (r : Row) (latest : ℕ) (d
   left_all : Leads (all_left after tables t r) (all_left before tables t r)
   left_all = all_leads (leaves_use tables t r latest) (leaves_use tables t r latest) left_leads before.live after.live live_grown
 
-  free_leads : Leads (is_free after tables t n r) (is_free before tables t n r)
+  free_leads : Leads (is_dispensable after tables t n r) (is_dispensable before tables t n r)
   free_leads = and_leads (sees_peers t r after.live && all_without after t n r) (all_left after tables t r && not doubt)
       (sees_peers t r before.live && all_without before t n r) (all_left before tables t r && not doubt)
       (and_leads (sees_peers t r after.live) (all_without after t n r) (sees_peers t r before.live) (all_without before t n r) sees_leads without_all)
@@ -350,9 +350,9 @@ yes_if : (free used : Bool) → free ≡ true → (if free then go.Yes else if u
 yes_if true used e = refl
 yes_if false used e = absurd (cc)
 
-yes_leads : (e f : Evidence) (tables : List Table) (t : Table) (n : ℕ) (r : Row) → Leads (is_free f tables t n r) (is_free e tables t n r) → may_go f tables t n r ≡ go.Yes → may_go e tables t n r ≡ go.Yes
+yes_leads : (e f : Evidence) (tables : List Table) (t : Table) (n : ℕ) (r : Row) → Leads (is_dispensable f tables t n r) (is_dispensable e tables t n r) → may_go f tables t n r ≡ go.Yes → may_go e tables t n r ≡ go.Yes
 unfolding may_go
-yes_leads e f tables t n r leads told = yes_if (is_free e tables t n r) (is_in_use e t n r) (leads (free_if (is_free f tables t n r) (is_in_use f t n r) told))
+yes_leads e f tables t n r leads told = yes_if (is_dispensable e tables t n r) (is_in_use e t n r) (leads (free_if (is_dispensable f tables t n r) (is_in_use f t n r) told))
 
 pub frees_none : (tables : List Table) (t : Table) (n : ℕ) (r : Row) (latest : ℕ) (table : SessionTable) (s : SeenSegment) (found : Option ℕ) → IsLast s table.uses → signs_of s table.uses ≡ no_signs
     → may_go (evidence_at latest (and_segment found s table)) tables t n r ≡ go.Yes → may_go (evidence_at latest table) tables t n r ≡ go.Yes

@@ -1,7 +1,7 @@
 //! How the connection of segments ends, by the uses of its session.
 ghost use Rattle.std.specs.Prelude.{◌≡◌, ◌&&◌, ◌||◌, nat_lt};
 ghost use Rattle.std.specs.List.{slice_get};
-ghost use Rattle.book_sessions.specs.Retiring.{and_ending, ending_by, fits_peer, if_both, is_closed, is_ended, is_onward, is_other_side, is_return, is_this_side, with_mark};
+ghost use Rattle.book_sessions.specs.Retiring.{and_ending, ending_by, fits_peer, if_both, both_finished, is_ended, is_onward, is_other_side, is_return, is_this_side, with_mark};
 ghost use Rattle.session_index.specs.Places.{uses_at};
 ghost use Rattle.scope_retiring.specs.AtPlaces.{ending_found};
 
@@ -120,8 +120,8 @@ pub(crate) fn ending_among(uses: &[KeyUse], places: &[usize], one: &KeyUse) -> E
     ending
 }
 
-fn is_closed(ending: &Ending) -> bool
-    ensures { result ≡ is_closed ending.now }
+fn both_finished(ending: &Ending) -> bool
+    ensures { result ≡ both_finished ending.now }
 {
     (ending.onward > 0 && ending.back > 0) && ending.moved <= ending.onward.max(ending.back)
 }
@@ -130,5 +130,5 @@ fn is_closed(ending: &Ending) -> bool
 pub(crate) fn is_ended(ending: &Ending) -> bool
     ensures { result ≡ is_ended ending.now }
 {
-    ending.reset || is_closed(ending)
+    ending.reset || both_finished(ending)
 }

@@ -3,7 +3,7 @@ ghost use Rattle.std.specs.Prelude.{◌≡◌, ◌≤◌, ◌&&◌, ◌||◌, le
 ghost use Rattle.std.specs.List.{list_all};
 ghost use Rattle.book_keys.specs.Plans.{same_key};
 ghost use Rattle.book_keys.specs.Rows.{row_limit, sends_for};
-ghost use Rattle.book_sessions.specs.Retiring.{all_left, between, contain_rest, is_partner, is_twin, leaves_both, leaves_peer, leaves_rows, leaves_use, sent_by, sent_to};
+ghost use Rattle.book_sessions.specs.Retiring.{all_left, between, contain_rest, is_partner, is_same_row, leaves_both, leaves_peer, leaves_rows, leaves_use, sent_by, sent_to};
 ghost use Rattle.scope_retiring.specs.Gone.{goes_with};
 
 use crate::evidence::Evidence;
@@ -31,8 +31,8 @@ fn contain_rest(lifetimes: &[Lifetime], from: u64, lifetime: Lifetime) -> bool
 }
 
 // Whether the rows have the same ids and the same send lifetime.
-fn is_twin(one: &Row, other: &Row) -> bool
-    ensures { result ≡ is_twin one.now other.now }
+fn is_same_row(one: &Row, other: &Row) -> bool
+    ensures { result ≡ is_same_row one.now other.now }
 {
     (other.send_id() == one.send_id() && other.recv_id() == one.recv_id())
         && (other.sending().first == one.sending().first
@@ -56,7 +56,7 @@ fn goes_with(going: Going, one: &Row, other: &Row) -> bool
     ensures { result ≡ goes_with going one.now other.now }
 {
     match going {
-        Going::Twins => is_twin(one, other),
+        Going::Twins => is_same_row(one, other),
         Going::Partners => is_partner(one, other),
     }
 }

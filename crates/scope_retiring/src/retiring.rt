@@ -1,6 +1,6 @@
 //! Whether a row may go.
 ghost use Rattle.std.specs.Prelude.{◌≡◌, ◌&&◌, not};
-ghost use Rattle.book_sessions.specs.Retiring.{all_left, all_without, is_free, may_go, sees_peers};
+ghost use Rattle.book_sessions.specs.Retiring.{all_left, all_without, is_dispensable, may_go, sees_peers};
 
 use crate::evidence::Evidence;
 use crate::left::all_left;
@@ -23,8 +23,14 @@ fn is_spared(evidence: &Evidence, tables: &Tables, table: &Table, row: &Row) -> 
     all_left(evidence, tables, table, row) && !evidence.doubt()
 }
 
-fn is_free(evidence: &Evidence, tables: &Tables, table: &Table, number: u64, row: &Row) -> bool
-    ensures { result ≡ is_free evidence.now tables.now table.now number row.now }
+fn is_dispensable(
+    evidence: &Evidence,
+    tables: &Tables,
+    table: &Table,
+    number: u64,
+    row: &Row,
+) -> bool
+    ensures { result ≡ is_dispensable evidence.now tables.now table.now number row.now }
 {
     is_unused(evidence, table, number, row) && is_spared(evidence, tables, table, row)
 }
@@ -37,7 +43,7 @@ fn is_free(evidence: &Evidence, tables: &Tables, table: &Table, number: u64, row
 pub fn may_go(evidence: &Evidence, tables: &Tables, table: &Table, number: u64, row: &Row) -> MayGo
     ensures { result ≡ may_go evidence.now tables.now table.now number row.now }
 {
-    if is_free(evidence, tables, table, number, row) {
+    if is_dispensable(evidence, tables, table, number, row) {
         return MayGo::Yes;
     }
     if is_in_use(evidence, table, number, row) {

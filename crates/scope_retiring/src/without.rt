@@ -103,7 +103,7 @@ fn is_without(evidence: &Evidence, table: &Table, number: u64, row: &Row, one: &
 }
 
 /// Whether both sides of each connection at the row that goes on do without it.
-pub(crate) fn all_without(evidence: &Evidence, table: &Table, number: u64, row: &Row) -> bool
+pub fn all_without(evidence: &Evidence, table: &Table, number: u64, row: &Row) -> bool
     ensures { result ≡ all_without evidence.now table.now number row.now }
 {
     for one in evidence.live() {

@@ -25,12 +25,7 @@ fn bits_of(datagram: &Datagram<'_>) -> SeenBits
     }
 }
 
-fn seen_segment(
-    packet: u64,
-    time: u64,
-    datagram: &Datagram<'_>,
-    heard: HeardSegment,
-) -> SeenSegment
+fn seen_segment(packet: u64, time: u64, datagram: &Datagram<'_>, heard: HeardSegment) -> SeenSegment
     ensures { (s : Stored) → s.number ≡ packet → s.time ≡ time → result ≡ seen_segment s datagram.now heard.outcome heard.pass }
 {
     SeenSegment {

@@ -2,7 +2,7 @@
 ghost use Rattle.std.specs.Prelude.{◌≡◌, ◌++◌, ◌∷◌, [], OnOk, codes};
 ghost use Rattle.std.specs.List.{flat_map, list_any};
 ghost use Rattle.book_scope_texts.specs.Addresses.{usual_address_text};
-ghost use Rattle.book_sessions.specs.KeyLines.{absent_line, absent_text, doubt_line, held_line, held_line_at, held_text, is_of_peer, lacking_line, obstacle_by, obstacle_line, obstacle_lines, unanswered_line, unseen_line};
+ghost use Rattle.book_sessions.specs.KeyLines.{absent_line, absent_text, doubt_line, held_line, held_line_at, held_text, is_of_peer, lacking_line, lacking_lines, obstacle_by, obstacle_line, obstacle_lines, unanswered_line, unseen_line};
 ghost use Rattle.book_sessions.specs.Retiring.{goes_from};
 ghost use Rattle.scope_retiring.specs.Known.{HasSession};
 
@@ -11,8 +11,8 @@ use book_base::{Address, Socket};
 use book_sessions::KeyUse;
 use key_table::{Row, Table, Tables};
 use scope_retiring::{
-    Evidence, asks_for_row, carries_row, goes_from, goes_without, is_at_row, is_of_peer,
-    is_verified, leaves_use, returns_without,
+    Evidence, all_without, asks_for_row, carries_row, goes_from, goes_without, is_at_row,
+    is_of_peer, is_verified, leaves_use, returns_without,
 };
 use std::alloc::AllocError;
 use text_lines::{push_field, push_newline, push_text};
@@ -219,6 +219,23 @@ fn push_all_lacking(
     Ok(())
 }
 
+fn push_lacking_lines(
+    out: &mut Vec<u8>,
+    evidence: &Evidence,
+    tables: &Tables,
+    table: &Table,
+    row: &Row,
+    without: bool,
+) -> Result<(), AllocError>
+    ensures { OnOk result (out.new.items ≡ out.old.items ++ lacking_lines evidence.now tables.now table.now row.now without) }
+{
+    if without {
+        push_all_lacking(out, evidence, tables, table, row)
+    } else {
+        Ok(())
+    }
+}
+
 fn push_doubt(out: &mut Vec<u8>, doubt: bool) -> Result<(), AllocError>
     ensures { OnOk result (out.new.items ≡ out.old.items ++ doubt_line doubt) }
 {
@@ -242,6 +259,7 @@ pub(crate) fn push_obstacles(
 {
     push_all_held(out, evidence, table, number, row)?;
     push_all_absent(out, evidence, table, row)?;
-    push_all_lacking(out, evidence, tables, table, row)?;
+    let without = all_without(evidence, table, number, row);
+    push_lacking_lines(out, evidence, tables, table, row, without)?;
     push_doubt(out, evidence.doubt())
 }

@@ -8,7 +8,7 @@ use Rattle.book_segments.proofs.SocketLaws.{same_socket_is}
 use Rattle.book_sessions.specs.declared.uses.KeyUse.{KeyUse}
 use Rattle.book_sessions.specs.declared.uses.SeenSegment.{SeenSegment}
 use Rattle.book_sessions.specs.declared.uses.Signs.{Signs}
-use Rattle.book_sessions.specs.Sessions.{carries_ids_of, first_use, further, goes_as, is_flow_of, is_use_of, isns_of, knows_both, passed_as, reached_before, same_flow, same_outcome, used_again, with_use}
+use Rattle.book_sessions.specs.Sessions.{carries_ids_of, first_use, greater_of, goes_as, is_flow_of, is_use_of, isns_of, knows_both, passed_as, reached_before, same_flow, same_outcome, used_again, with_use}
 use Rattle.book_sessions.specs.SessionTexts.{is_of_session}
 use Rattle.session_index.specs.Places.{is_use_found, place_among, places_from, reached_among}
 use Rattle.session_index.proofs.PlaceLaws.{StandsAt, stands_here, stands_next}
@@ -100,7 +100,7 @@ module _ (s : SeenSegment) where
   reached_from n i all (u ∷ us) S h = at (is_of_session n u) (is_flow_of s u) refl refl (reached_from n (suc i) all us (stands_next all us u i S) h.1)
     where
       at : (v w : Bool) → is_of_session n u ≡ v → is_flow_of s u ≡ w → reached_among s all (places_from n (suc i) us) ≡ reached_before s us
-          → reached_among s all (if v then i ∷ places_from n (suc i) us else places_from n (suc i) us) ≡ (if w then Some (further u.reached (reached_before s us)) else reached_before s us)
+          → reached_among s all (if v then i ∷ places_from n (suc i) us else places_from n (suc i) us) ≡ (if w then Some (greater_of u.reached (reached_before s us)) else reached_before s us)
       at true true e f g = rw (stands_here all us u i S, f, g) refl
       at true false e f g = rw (stands_here all us u i S, f, g) refl
       at false true e f g = let is = h.0 f in absurd (cc)

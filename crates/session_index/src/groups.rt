@@ -11,7 +11,7 @@ ghost use Rattle.book_sessions.specs.Sessions.{signs_of};
 ghost use Rattle.session_index.specs.Places.{and_found, is_use_found, number_between, place_among, reached_among, reached_with, uses_at};
 
 use crate::segment::{first_use, is_use_of, used_again};
-use crate::signs::{further, is_flow_of, signs_at};
+use crate::signs::{greater_of, is_flow_of, signs_at};
 use book_base::Pair;
 use book_sessions::{KeyUse, SeenSegment, Signs};
 use std::alloc::{AllocError, Global};
@@ -39,7 +39,7 @@ fn reached_with(segment: &SeenSegment, one: &KeyUse, others: Option<u64>) -> Opt
     ensures { result ≡ reached_with segment.now (Some one.now) others }
 {
     if is_flow_of(segment, one) {
-        Some(further(one.reached, others))
+        Some(greater_of(one.reached, others))
     } else {
         others
     }

@@ -1,6 +1,6 @@
 //! A segment as one of those that are counted together.
 ghost use Rattle.std.specs.Prelude.{◌≡◌, IfSome};
-ghost use Rattle.book_sessions.specs.Sessions.{asked_by, carries_ids_of, first_use, is_use_of, key_id_of, marked, passed_as, row_of, used_again};
+ghost use Rattle.book_sessions.specs.Sessions.{asked_by, carries_ids_of, first_use, is_use_of, key_id_of, marked, passed_as, passed_row, used_again};
 
 use crate::signs::{after_of, goes_as, is_same_flow, isns_of};
 use crate::words::{is_same_id, is_same_outcome};
@@ -18,8 +18,8 @@ fn asked_by(segment: &SeenSegment) -> Option<u8>
     segment.ids.map(|ids| ids.rnext_key_id)
 }
 
-fn row_of(segment: &SeenSegment) -> Option<u8>
-    ensures { result ≡ row_of segment.now }
+fn passed_row(segment: &SeenSegment) -> Option<u8>
+    ensures { result ≡ passed_row segment.now }
 {
     segment.pass.map(|pass| pass.row)
 }
@@ -33,7 +33,7 @@ fn carries_ids_of(segment: &SeenSegment, one: &KeyUse) -> bool
 fn passed_as(segment: &SeenSegment, one: &KeyUse) -> bool
     ensures { result ≡ passed_as segment.now one.now }
 {
-    is_same_id(row_of(segment), one.row) && is_same_flow(isns_of(segment), one.isns)
+    is_same_id(passed_row(segment), one.row) && is_same_flow(isns_of(segment), one.isns)
 }
 
 /// Whether a segment is one of these.
@@ -62,7 +62,7 @@ pub(crate) fn first_use(session: u64, signs: Signs, segment: &SeenSegment) -> Ke
         key_id: key_id_of(segment),
         asked: asked_by(segment),
         outcome: segment.outcome,
-        row: row_of(segment),
+        row: passed_row(segment),
         isns: isns_of(segment),
         opens: segment.bits.syn && segment.bits.ack,
         segments: 1,

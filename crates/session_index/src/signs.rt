@@ -1,6 +1,6 @@
 //! What a segment shows of its connection.
 ghost use Rattle.std.specs.Prelude.{◌≡◌, ◌&&◌};
-ghost use Rattle.book_sessions.specs.Sessions.{after_of, further, goes_as, goes_past, if_passed, is_flow_of, isns_of, knows_both, resets_at, same_flow, same_id, signs_at};
+ghost use Rattle.book_sessions.specs.Sessions.{after_of, greater_of, goes_as, goes_past, if_passed, is_flow_of, isns_of, knows_both, resets_at, same_flow, same_id, signs_at};
 
 use book_sessions::{FlowIsns, KeyUse, SeenBits, SeenPass, SeenSegment, Signs};
 
@@ -55,8 +55,8 @@ pub(crate) fn is_flow_of(segment: &SeenSegment, one: &KeyUse) -> bool
 }
 
 /// The greater of a number and of another, if there is one.
-pub(crate) fn further(number: u64, other: Option<u64>) -> u64
-    ensures { result ≡ further number other }
+pub(crate) fn greater_of(number: u64, other: Option<u64>) -> u64
+    ensures { result ≡ greater_of number other }
 {
     match other {
         None => number,
