@@ -119,8 +119,8 @@ lacking_line e tables t r u = if leaves_use tables t r e.latest u then []
     ∷ usual_address_text u.source.address ∷ usual_address_text u.destination.address ∷ [])
 
 -- the same of all that goes on at a row, once all of it does without the row (own)
-abbrev pub lacking_lines : Evidence → List Table → Table → Row → (without : Bool) → List ℕ
-lacking_lines e tables t r without =
+abbrev pub lines_without : Evidence → List Table → Table → Row → (without : Bool) → List ℕ
+lines_without e tables t r without =
     if without then flat_map (lacking_line e tables t r) e.live else []
 
 -- packets were passed over that may be segments (own)
@@ -133,7 +133,7 @@ abbrev pub obstacle_lines : Evidence → List Table → Table → (n : ℕ) → 
 obstacle_lines e tables t n r =
     flat_map (held_line_at e t n r) e.live
     ++ (flat_map (absent_line e t r) r.peers
-    ++ (lacking_lines e tables t r (all_without e t n r) ++ doubt_line e.doubt))
+    ++ (lines_without e tables t r (all_without e t n r) ++ doubt_line e.doubt))
 
 -- ---- a row
 

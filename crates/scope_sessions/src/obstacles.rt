@@ -2,7 +2,7 @@
 ghost use Rattle.std.specs.Prelude.{◌≡◌, ◌++◌, ◌∷◌, [], OnOk, codes};
 ghost use Rattle.std.specs.List.{flat_map, list_any};
 ghost use Rattle.book_scope_texts.specs.Addresses.{usual_address_text};
-ghost use Rattle.book_sessions.specs.KeyLines.{absent_line, absent_text, doubt_line, held_line, held_line_at, held_text, is_of_peer, lacking_line, lacking_lines, obstacle_by, obstacle_line, obstacle_lines, unanswered_line, unseen_line};
+ghost use Rattle.book_sessions.specs.KeyLines.{absent_line, absent_text, doubt_line, held_line, held_line_at, held_text, is_of_peer, lacking_line, lines_without, obstacle_by, obstacle_line, obstacle_lines, unanswered_line, unseen_line};
 ghost use Rattle.book_sessions.specs.Retiring.{goes_from};
 ghost use Rattle.scope_retiring.specs.Known.{HasSession};
 
@@ -227,7 +227,7 @@ fn push_lacking_lines(
     row: &Row,
     without: bool,
 ) -> Result<(), AllocError>
-    ensures { OnOk result (out.new.items ≡ out.old.items ++ lacking_lines evidence.now tables.now table.now row.now without) }
+    ensures { OnOk result (out.new.items ≡ out.old.items ++ lines_without evidence.now tables.now table.now row.now without) }
 {
     if without {
         push_all_lacking(out, evidence, tables, table, row)
