@@ -8,7 +8,8 @@ use Rattle.book_segments.proofs.SocketLaws.{same_socket_is}
 use Rattle.book_segments.specs.Sockets.{same_socket}
 use Rattle.book_sessions.specs.declared.uses.KeyUse.{KeyUse}
 use Rattle.book_sessions.specs.declared.uses.SeenSegment.{SeenSegment}
-use Rattle.book_sessions.specs.Sessions.{first_use, is_session_of, is_use_of, key_id_of, same_id, same_outcome, session_of, used_again, with_use}
+use Rattle.book_sessions.specs.declared.uses.Signs.{Signs}
+use Rattle.book_sessions.specs.Sessions.{carries_ids_of, first_use, goes_as, is_session_of, is_use_of, passed_as, same_outcome, session_of, used_again, with_use}
 use Rattle.book_sessions.specs.SessionTexts.{is_of_session}
 use Rattle.book_draw_session.specs.declared.rung.SessionEnds.{SessionEnds}
 use Rattle.book_draw_session.specs.declared.rung.SessionRung.{SessionRung}
@@ -21,7 +22,7 @@ seen_ends s = record { left = s.source; right = s.destination }
 
 use_ends : (s : SeenSegment) (u : KeyUse) → is_use_of s u ≡ true → seen_ends s ≡ ends_of_use u
 use_ends s u is =
-    let halves = and_parts (same_socket s.source u.source && same_socket s.destination u.destination) (same_id (key_id_of s) u.key_id && same_outcome s.outcome u.outcome) is in
+    let halves = and_parts (goes_as s u) (carries_ids_of s u && (same_outcome s.outcome u.outcome && passed_as s u)) is in
     let both = and_parts (same_socket s.source u.source) (same_socket s.destination u.destination) halves.0 in
     ap (λ x. record { left = x; right = s.destination }) (same_socket_is s.source u.source both.0)
     ∙ ap (λ x. record { left = u.source; right = x }) (same_socket_is s.destination u.destination both.1)
@@ -58,15 +59,15 @@ session_number s (u ∷ us) =
     pull (λ v. v.session) (is_session_of s u) u (find (is_session_of s) us)
     ∙ ap (λ (n : Option ℕ). if same_ends (seen_ends s) (ends_of_use u) then Some u.session else n) (session_number s us)
 
-module _ (e : SessionEnds) (k : ℕ) (s : SeenSegment) where
-  number_step : (c : Bool) (u : KeyUse) (us : List KeyUse) → is_use_of s u ≡ c → number_in e (with_use k s us) ≡ option_or (number_in e us) (if same_ends e (seen_ends s) then Some k else None)
-      → number_in e (if c then used_again s u ∷ us else u ∷ with_use k s us) ≡ option_or (number_in e (u ∷ us)) (if same_ends e (seen_ends s) then Some k else None)
+module _ (e : SessionEnds) (k : ℕ) (g : Signs) (s : SeenSegment) where
+  number_step : (c : Bool) (u : KeyUse) (us : List KeyUse) → is_use_of s u ≡ c → number_in e (with_use k g s us) ≡ option_or (number_in e us) (if same_ends e (seen_ends s) then Some k else None)
+      → number_in e (if c then used_again g s u ∷ us else u ∷ with_use k g s us) ≡ option_or (number_in e (u ∷ us)) (if same_ends e (seen_ends s) then Some k else None)
   number_step true u us is others =
       again_or (same_ends e (ends_of_use u)) u.session k (number_in e us)
       ∙ ap (λ x. option_or (number_in e (u ∷ us)) (if same_ends e x then Some k else None)) (sym (use_ends s u is))
   number_step false u us is others = kept_or (same_ends e (ends_of_use u)) u.session _ (number_in e us) _ others
 
-  pub number_used : (us : List KeyUse) → number_in e (with_use k s us) ≡ option_or (number_in e us) (if same_ends e (seen_ends s) then Some k else None)
+  pub number_used : (us : List KeyUse) → number_in e (with_use k g s us) ≡ option_or (number_in e us) (if same_ends e (seen_ends s) then Some k else None)
   number_used [] = first_or (same_ends e (seen_ends s)) k
   number_used (u ∷ us) = number_step (is_use_of s u) u us refl (number_used us)
 
@@ -92,12 +93,12 @@ module _ (known : List SessionEnds) (r : SessionRung) where
   agree_more [] agree = tt
   agree_more (u ∷ us) agree = (number_more known r (ends_of_use u) ∙ still (number_of (ends_of_use u) known) _ u.session agree.0, agree_more us agree.1)
 
-module _ (known : List SessionEnds) (k : ℕ) (s : SeenSegment) (now : number_of (seen_ends s) known ≡ Some k) where
-  agree_step : (c : Bool) (u : KeyUse) (us : List KeyUse) → Agree known (u ∷ us) → Agree known (with_use k s us) → Agree known (if c then used_again s u ∷ us else u ∷ with_use k s us)
+module _ (known : List SessionEnds) (k : ℕ) (g : Signs) (s : SeenSegment) (now : number_of (seen_ends s) known ≡ Some k) where
+  agree_step : (c : Bool) (u : KeyUse) (us : List KeyUse) → Agree known (u ∷ us) → Agree known (with_use k g s us) → Agree known (if c then used_again g s u ∷ us else u ∷ with_use k g s us)
   agree_step true u us agree others = (agree.0, agree.1)
   agree_step false u us agree others = (agree.0, others)
 
-  pub agree_used : (us : List KeyUse) → Agree known us → Agree known (with_use k s us)
+  pub agree_used : (us : List KeyUse) → Agree known us → Agree known (with_use k g s us)
   agree_used [] agree = (now, tt)
   agree_used (u ∷ us) agree = agree_step (is_use_of s u) u us agree (agree_used us agree.1)
 
@@ -118,16 +119,16 @@ ends_found n (u ∷ us) =
     pull ends_of_use (is_of_session n u) u (find (is_of_session n) us)
     ∙ ap (λ (o : Option SessionEnds). if is_of_session n u then Some (ends_of_use u) else o) (ends_found n us)
 
-module _ (n k : ℕ) (s : SeenSegment) where
+module _ (n k : ℕ) (g : Signs) (s : SeenSegment) where
   ends_step : (c : Bool) (u : KeyUse) (us : List KeyUse) → is_use_of s u ≡ c → (is_use_of s u ≡ true → u.session ≡ k)
-      → ends_in n (with_use k s us) ≡ option_or (ends_in n us) (if k == n then Some (seen_ends s) else None)
-      → ends_in n (if c then used_again s u ∷ us else u ∷ with_use k s us) ≡ option_or (ends_in n (u ∷ us)) (if k == n then Some (seen_ends s) else None)
+      → ends_in n (with_use k g s us) ≡ option_or (ends_in n us) (if k == n then Some (seen_ends s) else None)
+      → ends_in n (if c then used_again g s u ∷ us else u ∷ with_use k g s us) ≡ option_or (ends_in n (u ∷ us)) (if k == n then Some (seen_ends s) else None)
   ends_step true u us is of others =
       again_or (u.session == n) (ends_of_use u) (seen_ends s) (ends_in n us)
       ∙ ap (λ (m : ℕ). option_or (ends_in n (u ∷ us)) (if m == n then Some (seen_ends s) else None)) (of is)
   ends_step false u us is of others = kept_or (is_of_session n u) (ends_of_use u) _ (ends_in n us) _ others
 
-  pub ends_used : (us : List KeyUse) → IsOf k s us → ends_in n (with_use k s us) ≡ option_or (ends_in n us) (if k == n then Some (seen_ends s) else None)
+  pub ends_used : (us : List KeyUse) → IsOf k s us → ends_in n (with_use k g s us) ≡ option_or (ends_in n us) (if k == n then Some (seen_ends s) else None)
   ends_used [] all = first_or (k == n) (seen_ends s)
   ends_used (u ∷ us) all = ends_step (is_use_of s u) u us refl all.0 (ends_used us all.1)
 
@@ -145,12 +146,12 @@ module _ (n k : ℕ) (s : SeenSegment) where
   one_behind a b c d is = omega arith
 
   count_step : (c : Bool) (u : KeyUse) (us : List KeyUse) → is_use_of s u ≡ c → (is_use_of s u ≡ true → u.session ≡ k)
-      → counted_in n (with_use k s us) ≡ counted_in n us + (if k == n then 1 else 0)
-      → counted_in n (if c then used_again s u ∷ us else u ∷ with_use k s us) ≡ counted_in n (u ∷ us) + (if k == n then 1 else 0)
+      → counted_in n (with_use k g s us) ≡ counted_in n us + (if k == n then 1 else 0)
+      → counted_in n (if c then used_again g s u ∷ us else u ∷ with_use k g s us) ≡ counted_in n (u ∷ us) + (if k == n then 1 else 0)
   count_step true u us is of others =
       one_again (u.session == n) u.segments (counted_in n us) ∙ ap (λ (m : ℕ). counted_in n (u ∷ us) + (if m == n then 1 else 0)) (of is)
-  count_step false u us is of others = one_behind (if is_of_session n u then u.segments else 0) (counted_in n (with_use k s us)) (counted_in n us) (if k == n then 1 else 0) others
+  count_step false u us is of others = one_behind (if is_of_session n u then u.segments else 0) (counted_in n (with_use k g s us)) (counted_in n us) (if k == n then 1 else 0) others
 
-  pub count_used : (us : List KeyUse) → IsOf k s us → counted_in n (with_use k s us) ≡ counted_in n us + (if k == n then 1 else 0)
+  pub count_used : (us : List KeyUse) → IsOf k s us → counted_in n (with_use k g s us) ≡ counted_in n us + (if k == n then 1 else 0)
   count_used [] all = one_first (k == n)
   count_used (u ∷ us) all = count_step (is_use_of s u) u us refl all.0 (count_used us all.1)

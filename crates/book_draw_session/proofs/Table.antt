@@ -1,12 +1,13 @@
 -- That the rungs of a session are as many as its table counts.
-use Rattle.std.proofs.Common.{◌≡◌, ℕ, zero, suc, ◌+◌, ◌/◌, ◌==◌, ◌||◌, Bool, true, false, List, [], ◌∷◌, ◌++◌, length, Option, Some, None, Result, Ok, Err, refl, sym, ap, ◌∙◌, arith, append_assoc, cond, if◌then◌else◌}
+use Rattle.std.proofs.Common.{◌≡◌, ℕ, zero, suc, ◌+◌, ◌/◌, ◌==◌, ◌||◌, Bool, true, false, List, [], ◌∷◌, ◌++◌, length, Option, Some, None, Result, Ok, Err, refl, sym, subst, ap, ◌∙◌, arith, append_assoc, cond, if◌then◌else◌}
 use Rattle.std.specs.Prelude.{is_some, option_map, slice_get}
 use Rattle.std.specs.List.{filter, find, list_any}
 use Rattle.std.specs.Option.{option_or, unwrap_or}
 use Rattle.std.proofs.lemmas.Bool.{or_parts}
 use Rattle.std.proofs.lemmas.List.{append-nil}
 use Rattle.book_segments.specs.declared.fault.DatagramFault.{DatagramFault}
-use Rattle.book_segments.specs.Segments.{Reading, Read, Bad, reading}
+use Rattle.book_cmd_check.specs.Captures.{Stored}
+use Rattle.book_segments.specs.Segments.{Segment, Reading, Read, Bad, reading}
 use Rattle.book_captures.specs.declared.reasons.Skipped.{Skipped}
 use Rattle.book_captures.specs.Frames.{Datagram}
 use Rattle.book_captures.specs.Captures.{CapturePacket, frame_datagram}
@@ -16,13 +17,14 @@ use Rattle.book_sessions.specs.declared.outcome.PassedOver.{PassedOver}
 use Rattle.book_sessions.specs.declared.outcome.PassedOver.TheVariants as passed
 use Rattle.book_sessions.specs.declared.outcome.SegmentOutcome.{SegmentOutcome}
 use Rattle.book_sessions.specs.declared.uses.KeyUse.{KeyUse}
+use Rattle.book_sessions.specs.declared.uses.SeenSegment.{SeenSegment}
 use Rattle.book_sessions.specs.Laps.{Judging}
-use Rattle.book_sessions.specs.Listening.{Listening, listen, listening_behind}
-use Rattle.book_sessions.specs.Sessions.{SessionTable, and_counted, and_segment, counted_by, no_sessions, seen_by, session_of, sessions_from, sessions_of, stored_by, with_use}
+use Rattle.book_sessions.specs.Listening.{Listened, Listening, listen, listening_behind}
+use Rattle.book_sessions.specs.Sessions.{SessionTable, and_counted, and_segment, counted_by, no_sessions, seen_as, seen_by, session_of, sessions_from, sessions_of, signs_of, stored_by, with_use}
 use Rattle.book_sessions.specs.SessionTexts.{is_of_session}
 use Rattle.book_draw_session.specs.declared.rung.SessionEnds.{SessionEnds}
 use Rattle.book_draw_session.specs.declared.rung.SessionRung.{SessionRung}
-use Rattle.book_draw_session.specs.Rungs.{and_session, counted_in, drawn_by, ends_of, ends_of_use, is_between, rung_before, session_rung, rungs_between, session_rungs_from, rungs_in, rungs_of_session, same_ends, seen_of, session_at, sessions_after, sessions_drawn}
+use Rattle.book_draw_session.specs.Rungs.{and_session, counted_in, drawn_by, ends_of, ends_of_use, is_between, rung_before, rung_heard, rung_said, rungs_between, session_rungs_from, rungs_in, rungs_of_session, same_ends, seen_of, session_at, sessions_after, sessions_drawn}
 use Rattle.book_draw_session.proofs.Places.{any_place, known_more, known_still, like_ends, many_more, number_more, number_now, number_of, one_less, other_zero, place, place_more, place_of, session_more, zero_other}
 use Rattle.book_draw_session.proofs.Numbers.{Agree, IsOf, agree_more, agree_used, all_of, count_used, ends_found, ends_in, ends_used, number_in, number_used, seen_ends, session_number}
 
@@ -174,29 +176,29 @@ one_behind : (n : ℕ) → n + 1 ≡ suc n
 one_behind n = omega arith
 
 module _ (known : List SessionEnds) (uses : List KeyUse) (rs : List SessionRung) (sessions : ℕ) (fits : Fits known sessions uses rs) (r : SessionRung) where
-  fits_with : (k : ℕ) (many : ℕ) → k ≡ suc (place_of r known) → length (and_session known r) ≡ many → Fits (and_session known r) many (with_use k (seen_of r) uses) (rs ++ r ∷ [])
+  fits_with : (k : ℕ) (many : ℕ) → k ≡ suc (place_of r known) → length (and_session known r) ≡ many → Fits (and_session known r) many (with_use k (signs_of (seen_of r) uses) (seen_of r) uses) (rs ++ r ∷ [])
   fits_with k many is length_is =
       let now : number_of (ends_of r) (and_session known r) ≡ Some k = number_now known r ∙ ap (λ m. Some m) (sym is) in
       let agree = agree_more known r uses fits.agree in
-      let all = all_of (and_session known r) k (seen_of r) now uses agree in
+      let all = all_of (and_session known r) k (signs_of (seen_of r) uses) (seen_of r) now uses agree in
       let here = some_number (place (ends_of r) (and_session known r)) k now in
       record {
         many = length_is;
-        numbers = λ e. number_used e k (seen_of r) uses
+        numbers = λ e. number_used e k (signs_of (seen_of r) uses) (seen_of r) uses
             ∙ (ap (λ (p : Option ℕ). option_or p (if same_ends e (ends_of r) then Some k else None)) (fits.numbers e)
             ∙ (ap (λ (m : ℕ). option_or (number_of e known) (if same_ends e (ends_of r) then Some m else None)) is
             ∙ sym (number_more known r e)));
         ends = λ n. session_more known r n
             ∙ (ap (λ (m : ℕ). option_or (session_at n known) (if m == n then Some (ends_of r) else None)) (sym is)
             ∙ (ap (λ (o : Option SessionEnds). option_or o (if k == n then Some (ends_of r) else None)) (fits.ends n)
-            ∙ sym (ends_used n k (seen_of r) uses all)));
-        agree = agree_used (and_session known r) k (seen_of r) now uses agree;
+            ∙ sym (ends_used n k (signs_of (seen_of r) uses) (seen_of r) uses all)));
+        agree = agree_used (and_session known r) k (signs_of (seen_of r) uses) (seen_of r) now uses agree;
         apart = apart_by known r (place (ends_of r) known) refl fits.apart;
         placed = placed_last (and_session known r) r rs (placed_more known r rs fits.placed) here;
         counts = λ n. numbered_last n (and_session known r) r rs
             ∙ (ap (λ (m : ℕ). m + (if has_number n (and_session known r) r then 1 else 0)) (numbered_more known r n rs fits.placed ∙ fits.counts n)
             ∙ (ap (λ (p : Option ℕ). counted_in n uses + (if is_number n p then 1 else 0)) now
-            ∙ sym (count_used n k (seen_of r) uses all)));
+            ∙ sym (count_used n k (signs_of (seen_of r) uses) (seen_of r) uses all)));
       }
 
   fits_by : (p : Option ℕ) → place (ends_of r) known ≡ p → (passed_over : _) →
@@ -222,16 +224,30 @@ fits_more known t rs fits r =
 abbrev FitsLater : List SessionEnds → List SessionRung → SessionTable → List SessionRung → Type 0
 FitsLater known rs t more = Fits (sessions_after known more) t.sessions t.uses (rs ++ more)
 
-read_fits : (time : ℕ) (r : Reading) (said : Result SegmentOutcome DatagramFault) (known : List SessionEnds) (rs : List SessionRung) (t : SessionTable) (others : List SessionRung) (after : SessionTable → SessionTable)
-    → ((k : List SessionEnds) (xs : List SessionRung) (u : SessionTable) → Fits k u.sessions u.uses xs → FitsLater k xs (after u) others) → Fits known t.sessions t.uses rs
-    → FitsLater known rs (after (and_counted (seen_by (time / 1000000000) r said) t)) (rung_before time r said others)
-read_fits time (Bad fault) (Ok said) known rs t others after later fits = later known rs _ fits
-read_fits time (Bad fault) (Err why) known rs t others after later fits = later known rs _ fits
-read_fits time (Read d) (Err why) known rs t others after later fits = later known rs _ fits
-read_fits time (Read d) (Ok said) known rs t others after later fits =
-    let r = session_rung time d said in
+-- what follows a segment tells of what follows it
+abbrev Later : List SessionRung → (SessionTable → SessionTable) → Type 0
+Later others after = (k : List SessionEnds) (xs : List SessionRung) (u : SessionTable) → Fits k u.sessions u.uses xs → FitsLater k xs (after u) others
+
+said_fits : (s : Stored) (time : ℕ) (d : Segment) (l : Listened) (said : Result SegmentOutcome DatagramFault) (known : List SessionEnds) (rs : List SessionRung) (t : SessionTable) (others : List SessionRung) (after : SessionTable → SessionTable)
+    → s.time ≡ time / 1000000000 → Later others after → Fits known t.sessions t.uses rs
+    → FitsLater known rs (after (and_counted (seen_as s l (Read d) said) t)) (rung_said (rung_heard s.number time d l) said others)
+said_fits s time d l (Err why) known rs t others after at later fits = later known rs _ fits
+said_fits s time d l (Ok said) known rs t others after at later fits =
+    let r = rung_heard s.number time d l said in
+    let seen : seen_as s l (Read d) (Ok said) ≡ Ok (seen_of r) = rw at refl in
     let more = later (and_session known r) (rs ++ r ∷ []) (and_counted (Ok (seen_of r)) t) (fits_more known t rs fits r) in
-    rw (append_assoc rs (r ∷ []) others) at more
+    subst (λ (x : Result SeenSegment PassedOver). FitsLater known rs (after (and_counted x t)) (r ∷ others)) (sym seen) (rw (append_assoc rs (r ∷ []) others) at more)
+
+bad_fits : (s : Stored) (l : Listened) (fault : DatagramFault) (said : Result SegmentOutcome DatagramFault) (known : List SessionEnds) (rs : List SessionRung) (t : SessionTable) (others : List SessionRung) (after : SessionTable → SessionTable)
+    → Later others after → Fits known t.sessions t.uses rs → FitsLater known rs (after (and_counted (seen_as s l (Bad fault) said) t)) others
+bad_fits s l fault (Err why) known rs t others after later fits = later known rs _ fits
+bad_fits s l fault (Ok said) known rs t others after later fits = later known rs _ fits
+
+read_fits : (s : Stored) (time : ℕ) (l : Listened) (r : Reading) (known : List SessionEnds) (rs : List SessionRung) (t : SessionTable) (others : List SessionRung) (after : SessionTable → SessionTable)
+    → s.time ≡ time / 1000000000 → Later others after → Fits known t.sessions t.uses rs
+    → FitsLater known rs (after (and_counted (seen_by s r l) t)) (rung_before s.number time l r others)
+read_fits s time l (Bad fault) known rs t others after at later fits = bad_fits s l fault l.outcome known rs t others after later fits
+read_fits s time l (Read d) known rs t others after at later fits = said_fits s time d l l.outcome known rs t others after at later fits
 
 module _ (j : Judging) where
   stored_fits : (time : Option ℕ) (number : ℕ) (found : Result Datagram Skipped) (ps : List CapturePacket)
@@ -242,7 +258,8 @@ module _ (j : Judging) where
   stored_fits None number (Ok d) ps later l known rs t fits = later l known rs _ fits
   stored_fits (Some s) number (Ok d) ps later l known rs t fits =
       let h = listen j l (s / 1000000000) (reading (judged_bytes d)) in
-      read_fits s (reading (judged_bytes d)) h.outcome known rs t (session_rungs_from j h.listening ps) (λ now. sessions_from j h.listening now ps) (λ k xs u. later h.listening k xs u) fits
+      let stored : Stored = record { number = number; time = s / 1000000000; bytes = judged_bytes d } in
+      read_fits stored s h (reading (judged_bytes d)) known rs t (session_rungs_from j h.listening ps) (λ now. sessions_from j h.listening now ps) refl (λ k xs u. later h.listening k xs u) fits
 
   from_fits : (ps : List CapturePacket) (l : Listening) (known : List SessionEnds) (rs : List SessionRung) (t : SessionTable) → Fits known t.sessions t.uses rs
       → FitsLater known rs (sessions_from j l t ps) (session_rungs_from j l ps)

@@ -1,13 +1,14 @@
 -- What is drawn of a capture: a rung for each segment of one session. Its tops are `rungs_in` and
 -- `rungs_of_session`.
 use Rattle.std.specs.Prelude.{ℕ, zero, suc, ◌+◌, ◌/◌, ◌%◌, ◌==◌, Bool, ◌&&◌, ◌||◌, length}
-use Rattle.std.specs.Prelude.{List, [], ◌∷◌, ◌++◌, Option, Some, None, Result, Ok, Err}
+use Rattle.std.specs.Prelude.{List, [], ◌∷◌, ◌++◌, Option, Some, None, option_map}
+use Rattle.std.specs.Prelude.{Result, Ok, Err}
 use Rattle.std.specs.Prelude.{if◌then◌else◌, slice_get}
 use Rattle.std.specs.List.{filter, list_any}
 use Rattle.std.specs.Option.{unwrap_or}
 use Rattle.book_segments.specs.declared.fault.DatagramFault.{DatagramFault}
 use Rattle.book_segments.specs.Options.{find_ao}
-use Rattle.book_segments.specs.Segments.{Segment, Reading, Read, Bad, reading, SYN, ACK}
+use Rattle.book_segments.specs.Segments.{Segment, Reading, Read, Bad, reading, ACK, FIN, RST, SYN}
 use Rattle.book_segments.specs.Sockets.{same_socket}
 use Rattle.book_captures.specs.Captures.{CapturePacket}
 use Rattle.book_cmd_check.specs.Captures.{Stored}
@@ -15,18 +16,22 @@ use Rattle.book_cmd_check.specs.declared.given.GivenIsns.{GivenIsns}
 use Rattle.book_sessions.specs.declared.outcome.PassedOver.{PassedOver}
 use Rattle.book_sessions.specs.declared.outcome.SegmentOutcome.{SegmentOutcome}
 use Rattle.book_sessions.specs.declared.uses.KeyUse.{KeyUse}
+use Rattle.book_sessions.specs.declared.uses.SeenBits.{SeenBits}
+use Rattle.book_sessions.specs.declared.uses.SeenPass.{SeenPass}
 use Rattle.book_sessions.specs.declared.uses.SeenSegment.{SeenSegment}
 use Rattle.book_sessions.specs.Laps.{Judging}
-use Rattle.book_sessions.specs.Listening.{Listening, listen, listening_behind}
-use Rattle.book_sessions.specs.Sessions.{ids_found, stored_of_packet}
+use Rattle.book_sessions.specs.Listening.{Listened, Listening, listen, listening_behind}
+use Rattle.book_sessions.specs.Sessions.{ids_found, seen_pass, stored_of_packet}
 use Rattle.book_sessions.specs.SessionTexts.{is_of_session}
 use Rattle.book_draw_session.specs.declared.rung.SessionEnds.{SessionEnds}
 use Rattle.book_draw_session.specs.declared.rung.SessionRung.{SessionRung}
 
--- a segment that was seen at this time, in nanoseconds, of which this comes (RFC 9293, section 3.1;
--- RFC 5925, section 2.2)
-abbrev pub session_rung : (time : ℕ) → Segment → SegmentOutcome → SessionRung
-session_rung time d said = record {
+-- a segment that was stored, seen at this time, in nanoseconds, of which this comes and was found
+-- (RFC 9293, section 3.1; RFC 5925, section 2.2)
+abbrev pub session_rung : (packet time : ℕ) → Segment → SegmentOutcome → Option SeenPass →
+    SessionRung
+session_rung packet time d said pass = record {
+  packet = packet;
   time = time;
   source = d.source;
   destination = d.destination;
@@ -36,14 +41,27 @@ session_rung time d said = record {
   length = length d.payload;
   ids = ids_found (find_ao d.area);
   outcome = said;
+  pass = pass;
 }
 
--- the rung of what is read, where it is a segment, in front of others (own)
-abbrev pub rung_before : (time : ℕ) → Reading → Result SegmentOutcome DatagramFault →
+-- the same, of a segment that was heard (own)
+abbrev pub rung_heard : (packet time : ℕ) → Segment → Listened → SegmentOutcome → SessionRung
+rung_heard packet time d l said =
+    session_rung packet time d said (option_map (seen_pass d l.listening.held) l.pass)
+
+-- the rung of what is said of a segment, in front of others; there is none of bytes that are none
+-- (own)
+abbrev pub rung_said : (SegmentOutcome → SessionRung) → Result SegmentOutcome DatagramFault →
     List SessionRung → List SessionRung
-rung_before time (Bad fault) said others = others
-rung_before time (Read d) (Err fault) others = others
-rung_before time (Read d) (Ok said) others = session_rung time d said ∷ others
+rung_said draw (Err fault) others = others
+rung_said draw (Ok said) others = draw said ∷ others
+
+-- the rung of what is read, where it is a segment, in front of others (own)
+abbrev pub rung_before : (packet time : ℕ) → Listened → Reading → List SessionRung →
+    List SessionRung
+rung_before packet time l (Bad fault) others = others
+rung_before packet time l (Read d) others =
+    rung_said (rung_heard packet time d l) l.outcome others
 
 -- the rung of a packet seen at this time of which this is judged, in front of others behind what
 -- was heard with it (own)
@@ -51,7 +69,7 @@ abbrev pub drawn_by : Judging → Listening → (time : Option ℕ) → Result S
     (Listening → List SessionRung) → List SessionRung
 drawn_by j l time (Err why) others = others l
 drawn_by j l time (Ok s) others = let h = listen j l s.time (reading s.bytes) in
-    rung_before (unwrap_or time 0) (reading s.bytes) h.outcome (others h.listening)
+    rung_before s.number (unwrap_or time 0) h (reading s.bytes) (others h.listening)
 
 -- the rungs of packets, behind what is known (own)
 abbrev pub session_rungs_from : Judging → Listening → List CapturePacket → List SessionRung
@@ -111,15 +129,26 @@ rungs_of_session number rs = rungs_between (session_at number (sessions_drawn rs
 abbrev pub has_flag : (flag flags : ℕ) → Bool
 has_flag flag flags = (flags / flag) % 2 == 1
 
+-- the control bits that begin or end a connection, of a byte of flags (RFC 9293, section 3.1)
+abbrev pub bits_set : ℕ → SeenBits
+bits_set flags = record {
+  syn = has_flag SYN flags;
+  ack = has_flag ACK flags;
+  fin = has_flag FIN flags;
+  rst = has_flag RST flags;
+}
+
 -- a rung as a segment that was seen, at its second (own)
 abbrev pub seen_of : SessionRung → SeenSegment
 seen_of r = record {
+  packet = r.packet;
   time = r.time / 1000000000;
   source = r.source;
   destination = r.destination;
   ids = r.ids;
-  opens = has_flag SYN r.flags && has_flag ACK r.flags;
+  bits = bits_set r.flags;
   outcome = r.outcome;
+  pass = r.pass;
 }
 
 -- how many segments a table counts of the session of this number (own)

@@ -1,10 +1,12 @@
 //! The rungs of a session's ladder.
 use book_base::Socket;
-use book_sessions::{KeyIds, SegmentOutcome};
+use book_sessions::{KeyIds, SeenPass, SegmentOutcome};
 
 /// A segment of a capture, as it is drawn.
 #[derive(Clone, Copy, Debug, PartialEq, Eq)]
 pub struct SessionRung {
+    /// The number of its packet in the capture.
+    pub packet: u64,
     /// When it was seen, in nanoseconds since 1970.
     pub time: u64,
     pub source: Socket,
@@ -21,6 +23,8 @@ pub struct SessionRung {
     pub ids: Option<KeyIds>,
     /// What comes of it.
     pub outcome: SegmentOutcome,
+    /// What the check found of it, where it is verified.
+    pub pass: Option<SeenPass>,
 }
 
 /// The two ends of a session: the sockets of its first segment.

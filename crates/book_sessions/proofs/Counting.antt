@@ -10,11 +10,12 @@ use Rattle.book_captures.specs.Captures.{CapturePacket}
 use Rattle.book_sessions.specs.declared.outcome.SegmentOutcome.{SegmentOutcome}
 use Rattle.book_sessions.specs.declared.outcome.PassedOver.{PassedOver}
 use Rattle.book_sessions.specs.declared.uses.SeenSegment.{SeenSegment}
+use Rattle.book_sessions.specs.declared.uses.Signs.{Signs}
 use Rattle.book_sessions.specs.declared.uses.KeyUse.{KeyUse}
 use Rattle.book_sessions.specs.declared.uses.PassedCount.{PassedCount}
 use Rattle.book_sessions.specs.Laps.{Judging}
-use Rattle.book_sessions.specs.Listening.{Listening, outcome_of, listen, listening_behind}
-use Rattle.book_sessions.specs.Sessions.{SessionTable, same_reason, seen_by, same_outcome, is_use_of, session_of, used_again, with_use, and_segment, with_passed, and_counted, stored_of_packet, all_stored, counted_by, sessions_from, no_sessions, sessions_of}
+use Rattle.book_sessions.specs.Listening.{Listened, Listening, heard_once, outcome_of, listen, listening_behind}
+use Rattle.book_sessions.specs.Sessions.{SessionTable, same_reason, seen_as, seen_by, same_outcome, is_use_of, session_of, used_again, with_use, signs_of, and_segment, with_passed, and_counted, stored_of_packet, all_stored, counted_by, sessions_from, no_sessions, sessions_of}
 use Rattle.book_sessions.specs.Counts.{if_outcome, counted, said_once, said_times, outcome_times, like_times, like_counted, is_like, use_as_checked, all_counted, all_passed, seen_before, segments_seen, segments_heard}
 use Rattle.book_sessions.proofs.Sums.{sum_of_uses, sum_of_segments, kinds_counted}
 use Rattle.book_sessions.proofs.Hearing.{without_laps, seen_as_checked, heard_as_checked}
@@ -89,23 +90,25 @@ outcomes_checked tables given packets o =
     ∙ (sym (times_sum o (map seen_as_checked ss))
     ∙ ap (outcome_times o) (heard_as_checked tables (listening_behind given) (all_stored packets))))))
 
-said_by : (o : SegmentOutcome) (time : ℕ) (d : Segment) (said : Result SegmentOutcome DatagramFault) (ss : List SeenSegment) →
-    outcome_times o (seen_before (seen_by time (Read d) said) ss) ≡ said_once o said + outcome_times o ss
-said_by o time d (Ok said) ss = refl
-said_by o time d (Err fault) ss = sym (zero_first (outcome_times o ss))
+said_by : (o : SegmentOutcome) (s : Stored) (l : Listened) (d : Segment) (said : Result SegmentOutcome DatagramFault) (ss : List SeenSegment) →
+    outcome_times o (seen_before (seen_as s l (Read d) said) ss) ≡ said_once o said + outcome_times o ss
+said_by o s l d (Ok said) ss = refl
+said_by o s l d (Err fault) ss = sym (zero_first (outcome_times o ss))
 
 -- what is said of bytes that are no segment is no outcome
-said_of : (o : SegmentOutcome) (tables : List Table) (held : List Connection) (time : ℕ) (r : Reading) (ss : List SeenSegment) →
-    outcome_times o (seen_before (seen_by time r (outcome_of (hear_read tables held time r).saying)) ss) ≡ said_once o (outcome_of (hear_read tables held time r).saying) + outcome_times o ss
-said_of o tables held time (Bad fault) ss = sym (zero_first (outcome_times o ss))
-said_of o tables held time (Read d) ss = said_by o time d (outcome_of (hear_read tables held time (Read d)).saying) ss
+said_of : (o : SegmentOutcome) (tables : List Table) (held : List Connection) (s : Stored) (r : Reading) (ss : List SeenSegment) →
+    outcome_times o (seen_before (seen_by s r (heard_once (hear_read tables held s.time r) [] [])) ss)
+    ≡ said_once o (outcome_of (hear_read tables held s.time r).saying) + outcome_times o ss
+said_of o tables held s (Bad fault) ss = sym (zero_first (outcome_times o ss))
+said_of o tables held s (Read d) ss =
+    let h = hear_read tables held s.time (Read d) in said_by o s (heard_once h [] []) d (outcome_of h.saying) ss
 
 sayings_counted : (o : SegmentOutcome) (tables : List Table) (held : List Connection) (stored : List Stored) → outcome_times o (segments_seen tables held stored) ≡ said_times o (sayings_from tables held stored)
 unfolding hear
 sayings_counted o tables held [] = refl
 sayings_counted o tables held (s ∷ rest) =
     let h = hear_read tables held s.time (reading s.bytes) in
-    said_of o tables held s.time (reading s.bytes) (segments_seen tables h.connections rest)
+    said_of o tables held s (reading s.bytes) (segments_seen tables h.connections rest)
     ∙ ap (λ (n : ℕ). said_once o (outcome_of h.saying) + n) (sayings_counted o tables h.connections rest)
 
 pub verdicts_counted : (tables : List Table) (given : List GivenIsns) (packets : List CapturePacket) (o : SegmentOutcome) →
@@ -114,14 +117,14 @@ verdicts_counted tables given packets o = outcomes_checked tables given packets 
 
 -- ---- each packet
 
-all_step : (b : Bool) (session : ℕ) (s : SeenSegment) (u : KeyUse) (us : List KeyUse) → all_counted (with_use session s us) ≡ 1 + all_counted us →
-    all_counted (if b then used_again s u ∷ us else u ∷ with_use session s us) ≡ 1 + (u.segments + all_counted us)
-all_step true session s u us others = omega arith
-all_step false session s u us others = omega arith
+all_step : (b : Bool) (session : ℕ) (g : Signs) (s : SeenSegment) (u : KeyUse) (us : List KeyUse) → all_counted (with_use session g s us) ≡ 1 + all_counted us →
+    all_counted (if b then used_again g s u ∷ us else u ∷ with_use session g s us) ≡ 1 + (u.segments + all_counted us)
+all_step true session g s u us others = omega arith
+all_step false session g s u us others = omega arith
 
-use_all : (session : ℕ) (s : SeenSegment) (us : List KeyUse) → all_counted (with_use session s us) ≡ 1 + all_counted us
-use_all session s [] = refl
-use_all session s (u ∷ us) = all_step (is_use_of s u) session s u us (use_all session s us)
+use_all : (session : ℕ) (g : Signs) (s : SeenSegment) (us : List KeyUse) → all_counted (with_use session g s us) ≡ 1 + all_counted us
+use_all session g s [] = refl
+use_all session g s (u ∷ us) = all_step (is_use_of s u) session g s u us (use_all session g s us)
 
 passed_step : (b : Bool) (why : PassedOver) (c : PassedCount) (cs : List PassedCount) → all_passed (with_passed why cs) ≡ 1 + all_passed cs →
     all_passed (if b then record { why = c.why; packets = c.packets + 1 } ∷ cs else c ∷ with_passed why cs) ≡ 1 + (c.packets + all_passed cs)
@@ -136,8 +139,8 @@ abbrev all_of : SessionTable → ℕ
 all_of t = all_counted t.uses + all_passed t.passed
 
 segment_all : (found : Option ℕ) (s : SeenSegment) (t : SessionTable) → all_of (and_segment found s t) ≡ 1 + all_of t
-segment_all None s t = let more = use_all (t.sessions + 1) s t.uses in omega arith
-segment_all (Some session) s t = let more = use_all session s t.uses in omega arith
+segment_all None s t = let more = use_all (t.sessions + 1) (signs_of s t.uses) s t.uses in omega arith
+segment_all (Some session) s t = let more = use_all session (signs_of s t.uses) s t.uses in omega arith
 
 packet_all : (r : Result SeenSegment PassedOver) (t : SessionTable) → all_of (and_counted r t) ≡ 1 + all_of t
 packet_all (Ok s) t = segment_all (session_of s t.uses) s t
@@ -152,7 +155,7 @@ module _ (j : Judging) where
   step_all (Err why) ps others l t = others l (and_counted (Err why) t) ∙ one_later _ _ (length ps) (packet_all (Err why) t)
   step_all (Ok s) ps others l t =
       let h = listen j l s.time (reading s.bytes) in
-      let r = seen_by s.time (reading s.bytes) h.outcome in
+      let r = seen_by s (reading s.bytes) h in
       others h.listening (and_counted r t) ∙ one_later _ _ (length ps) (packet_all r t)
 
   from_all : (ps : List CapturePacket) (l : Listening) (t : SessionTable) → all_of (sessions_from j l t ps) ≡ all_of t + length ps

@@ -10,10 +10,11 @@ use Rattle.book_keys.proofs.OverlapLaws.{same_address-true}
 use Rattle.book_endpoint.specs.declared.verdict.Verdict.TheVariants.{Pass, NoAo, TwoAo, WithMd5, NoTuple, Expired, MacLength, NoContext, Range, BadMac}
 use Rattle.book_sessions.specs.declared.outcome.SegmentOutcome.{SegmentOutcome}
 use Rattle.book_sessions.specs.declared.outcome.SegmentOutcome.TheVariants as outcome
+use Rattle.book_sessions.specs.declared.uses.FlowIsns.{FlowIsns}
 use Rattle.book_sessions.specs.declared.uses.SeenSegment.{SeenSegment}
 use Rattle.book_sessions.specs.declared.uses.KeyUse.{KeyUse}
 use Rattle.book_sessions.specs.OutcomeTexts.{outcome_text}
-use Rattle.book_sessions.specs.Sessions.{key_id_of, same_id, same_outcome, is_use_of}
+use Rattle.book_sessions.specs.Sessions.{asked_by, carries_ids_of, goes_as, isns_of, key_id_of, passed_as, passed_row, same_flow, same_id, same_outcome, is_use_of}
 use Rattle.book_sessions.specs.Counts.{as_checked, is_like, use_as_checked}
 use Rattle.book_sessions.proofs.Hearing.{seen_as_checked}
 use Rattle.book_sessions.proofs.Sums.{IsKind}
@@ -30,6 +31,16 @@ id_is None None e = refl
 id_is None (Some b) e = absurd (cc)
 id_is (Some a) None e = absurd (cc)
 id_is (Some a) (Some b) e = ap (λ (n : ℕ). Some n) (eqb-true a b e)
+
+flow_is : (a b : Option FlowIsns) → same_flow a b ≡ true → a ≡ b
+flow_is None None e = refl
+flow_is None (Some b) e = absurd (cc)
+flow_is (Some a) None e = absurd (cc)
+flow_is (Some a) (Some b) e =
+    let both = and_parts (a.own == b.own) (same_id a.peer b.peer) e in
+    let own = eqb-true a.own b.own both.0 in
+    let peer = id_is a.peer b.peer both.1 in
+    ap (λ (n : ℕ). Some (record { own = n; peer = a.peer })) own ∙ ap (λ (p : Option ℕ). Some (record { own = b.own; peer = p })) peer
 
 text_is : (one two : SegmentOutcome) → same_outcome one two ≡ true → outcome_text one ≡ outcome_text two
 text_is one two e = (bytes_eq-Decides (outcome_text one) (outcome_text two)).0 e
@@ -71,47 +82,60 @@ pub record SameKind (s : SeenSegment) (u : KeyUse) : Type 0 where
   pub source : s.source ≡ u.source
   pub destination : s.destination ≡ u.destination
   pub key_id : key_id_of s ≡ u.key_id
+  pub asked : asked_by s ≡ u.asked
+  pub row : passed_row s ≡ u.row
+  pub isns : isns_of s ≡ u.isns
   pub said : same_outcome s.outcome u.outcome ≡ true
 
 kind_parts : (s : SeenSegment) (u : KeyUse) → is_use_of s u ≡ true → SameKind s u
 kind_parts s u e =
-    let halves = and_parts (same_socket s.source u.source && same_socket s.destination u.destination) (same_id (key_id_of s) u.key_id && same_outcome s.outcome u.outcome) e in
+    let halves = and_parts (goes_as s u) (carries_ids_of s u && (same_outcome s.outcome u.outcome && passed_as s u)) e in
     let sockets = and_parts (same_socket s.source u.source) (same_socket s.destination u.destination) halves.0 in
-    let others = and_parts (same_id (key_id_of s) u.key_id) (same_outcome s.outcome u.outcome) halves.1 in
+    let others = and_parts (carries_ids_of s u) (same_outcome s.outcome u.outcome && passed_as s u) halves.1 in
+    let ids = and_parts (same_id (key_id_of s) u.key_id) (same_id (asked_by s) u.asked) others.0 in
+    let ends = and_parts (same_outcome s.outcome u.outcome) (passed_as s u) others.1 in
+    let pass = and_parts (same_id (passed_row s) u.row) (same_flow (isns_of s) u.isns) ends.1 in
     record {
       source = socket_is s.source u.source sockets.0;
       destination = socket_is s.destination u.destination sockets.1;
-      key_id = id_is (key_id_of s) u.key_id others.0;
-      said = others.1;
+      key_id = id_is (key_id_of s) u.key_id ids.0;
+      asked = id_is (asked_by s) u.asked ids.1;
+      row = id_is (passed_row s) u.row pass.0;
+      isns = flow_is (isns_of s) u.isns pass.1;
+      said = ends.0;
     }
 
 -- ---- the kinds
 
 pub outcome_kind : (o : SegmentOutcome) → IsKind (λ u. same_outcome o u.outcome) (λ s. same_outcome o s.outcome)
 outcome_kind o = record {
-  first = λ number s. refl;
-  again = λ s u. refl;
+  first = λ number g s. refl;
+  again = λ g s u. refl;
   same = λ s u is. ap (bytes_eq (outcome_text o)) (sym (text_is s.outcome u.outcome (kind_parts s u is).said));
 }
 
 pub checked_kind : (o : SegmentOutcome) → IsKind (λ u. same_outcome o (use_as_checked u).outcome) (λ s. same_outcome o (seen_as_checked s).outcome)
 checked_kind o = record {
-  first = λ number s. refl;
-  again = λ s u. refl;
+  first = λ number g s. refl;
+  again = λ g s u. refl;
   same = λ s u is. ap (bytes_eq (outcome_text o)) (sym (checked_alike s.outcome u.outcome (kind_parts s u is).said));
 }
 
 module _ (k : SeenSegment) where
-  -- the segment is of what goes between these sockets with this KeyID, of which this is said
-  abbrev fits_kind : (source destination : Socket) → Option ℕ → List ℕ → Bool
-  fits_kind a b id text = (same_socket k.source a && same_socket k.destination b) && (same_id (key_id_of k) id && bytes_eq (outcome_text k.outcome) text)
+  -- the segment goes between these sockets
+  abbrev fits_way : (source destination : Socket) → Bool
+  fits_way a b = same_socket k.source a && same_socket k.destination b
 
-  same_kind : (s : SeenSegment) (u : KeyUse) (one two : List ℕ) → SameKind s u → one ≡ two → fits_kind u.source u.destination u.key_id two ≡ fits_kind s.source s.destination (key_id_of s) one
+  -- the segment carries these ids, this is said of it, and it passed so
+  abbrev fits_rest : (id asked : Option ℕ) → List ℕ → Option ℕ → Option FlowIsns → Bool
+  fits_rest id asked text row isns = (same_id (key_id_of k) id && same_id (asked_by k) asked)
+      && (bytes_eq (outcome_text k.outcome) text && (same_id (passed_row k) row && same_flow (isns_of k) isns))
+
+  same_kind : (s : SeenSegment) (u : KeyUse) (one two : List ℕ) → SameKind s u → one ≡ two
+      → (fits_way u.source u.destination && fits_rest u.key_id u.asked two u.row u.isns)
+      ≡ (fits_way s.source s.destination && fits_rest (key_id_of s) (asked_by s) one (passed_row s) (isns_of s))
   same_kind s u one two same d =
-      sym (ap (λ x. fits_kind x s.destination (key_id_of s) one) same.source
-      ∙ (ap (λ x. fits_kind u.source x (key_id_of s) one) same.destination
-      ∙ (ap (λ x. fits_kind u.source u.destination x one) same.key_id
-      ∙ ap (λ x. fits_kind u.source u.destination u.key_id x) d)))
+      rw (same.source, same.destination, same.key_id, same.asked, same.row, same.isns, d) refl
 
   same_way : (s : SeenSegment) (u : KeyUse) → is_use_of s u ≡ true → is_use_of k u ≡ is_like k s
   same_way s u is = let same = kind_parts s u is in same_kind s u (outcome_text s.outcome) (outcome_text u.outcome) same (text_is s.outcome u.outcome same.said)
@@ -120,7 +144,7 @@ module _ (k : SeenSegment) where
   same_checked_way s u is = let same = kind_parts s u is in same_kind s u (outcome_text (as_checked s.outcome)) (outcome_text (as_checked u.outcome)) same (checked_alike s.outcome u.outcome same.said)
 
 pub way_kind : (k : SeenSegment) → IsKind (λ u. is_use_of k u) (λ s. is_like k s)
-way_kind k = record { first = λ number s. refl; again = λ s u. refl; same = λ s u is. same_way k s u is }
+way_kind k = record { first = λ number g s. refl; again = λ g s u. refl; same = λ s u is. same_way k s u is }
 
 pub checked_way_kind : (k : SeenSegment) → IsKind (λ u. is_use_of k (use_as_checked u)) (λ s. is_like k (seen_as_checked s))
-checked_way_kind k = record { first = λ number s. refl; again = λ s u. refl; same = λ s u is. same_checked_way k s u is }
+checked_way_kind k = record { first = λ number g s. refl; again = λ g s u. refl; same = λ s u is. same_checked_way k s u is }

@@ -15,8 +15,8 @@ use Rattle.book_sessions.specs.declared.outcome.SegmentOutcome.TheVariants as ou
 use Rattle.book_sessions.specs.declared.uses.SeenSegment.{SeenSegment}
 use Rattle.book_sessions.specs.Glimpses.{Opening, openings_after, glimpsed, is_judged, is_unknown}
 use Rattle.book_sessions.specs.Laps.{Judging, is_searched, heard_further, heard_by, hear_over}
-use Rattle.book_sessions.specs.Listening.{Listening, Listened, outcome_of, unconfirmed_of, heard_once, heard_twice, listen}
-use Rattle.book_sessions.specs.Sessions.{seen_by}
+use Rattle.book_sessions.specs.Listening.{Listening, Listened, outcome_of, pass_of, unconfirmed_of, heard_once, heard_twice, listen}
+use Rattle.book_sessions.specs.Sessions.{seen_as, seen_by}
 use Rattle.book_sessions.specs.Counts.{as_checked, seen_before, segments_heard, segments_seen}
 
 -- by these tables, without a search
@@ -214,11 +214,31 @@ outcome_alike tables l now (Read d) =
 
 -- ---- all segments
 
-seen_alike : (time : ℕ) (r : Reading) (o : Result SegmentOutcome DatagramFault) (ss : List SeenSegment) →
-    map seen_as_checked (seen_before (seen_by time r o) ss) ≡ seen_before (seen_by time r (checked o)) (map seen_as_checked ss)
-seen_alike time r (Err fault) ss = refl
-seen_alike time (Bad fault) (Ok o) ss = refl
-seen_alike time (Read d) (Ok o) ss = refl
+seen_alike : (s : Stored) (l m : Listened) (r : Reading) (o : Result SegmentOutcome DatagramFault) (ss : List SeenSegment) → l.listening.held ≡ m.listening.held → l.pass ≡ m.pass →
+    map seen_as_checked (seen_before (seen_as s l r o) ss) ≡ seen_before (seen_as s m r (checked o)) (map seen_as_checked ss)
+seen_alike s l m r (Err fault) ss e f = refl
+seen_alike s l m (Bad fault) (Ok o) ss e f = refl
+seen_alike s l m (Read d) (Ok o) ss e f = rw (e, f) refl
+
+unknown_passes_not : (w : Saying) → is_unknown w ≡ true → None ≡ pass_of w
+unknown_passes_not (Unreadable fault) e = refl
+unknown_passes_not UnknownNode e = refl
+unknown_passes_not (TooManyConnections checksum) e = refl
+unknown_passes_not (Judged (Ok p) checksum) e = absurd (cc)
+unknown_passes_not (Judged (Err why) checksum) e = refl
+
+listened_pass : (b : Bool) (h k : Heard) (guessed : List Connection) (openings : List Opening) → (b ≡ true → None ≡ pass_of h.saying) → (listened b h k guessed openings).pass ≡ pass_of h.saying
+listened_pass true h k guessed openings none = none refl
+listened_pass false h k guessed openings none = refl
+
+pass_alike : (tables : List Table) (l : Listening) (now : ℕ) (r : Reading) → (listen (without_laps tables) l now r).pass ≡ pass_of (hear_read tables l.held now r).saying
+unfolding listen
+pass_alike tables l now (Bad fault) = refl
+pass_alike tables l now (Read d) =
+    let h = hear_over (without_laps tables) l.held now d in
+    let guessed = glimpsed d h.saying l.openings l.guessed in
+    listened_pass (is_unknown h.saying) h (hear_over (without_laps tables) guessed now d) guessed (openings_after d h.saying l.openings) (unknown_passes_not h.saying)
+    ∙ ap (λ (x : Heard). pass_of x.saying) (heard_at_once tables l.held now d)
 
 -- the segments that are heard, as `check` says it of them
 pub heard_as_checked : (tables : List Table) (l : Listening) (stored : List Stored) → map seen_as_checked (segments_heard (without_laps tables) l stored) ≡ segments_seen tables l.held stored
@@ -228,6 +248,7 @@ heard_as_checked tables l (s ∷ rest) =
     let r = reading s.bytes in
     let h = listen (without_laps tables) l s.time r in
     let others = heard_as_checked tables h.listening rest ∙ ap (λ (held : List Connection). segments_seen tables held rest) (held_alike tables l s.time r) in
-    seen_alike s.time r h.outcome (segments_heard (without_laps tables) h.listening rest)
-    ∙ (ap (λ o. seen_before (seen_by s.time r o) (map seen_as_checked (segments_heard (without_laps tables) h.listening rest))) (outcome_alike tables l s.time r)
-    ∙ ap (λ (ss : List SeenSegment). seen_before (seen_by s.time r (outcome_of (hear_read tables l.held s.time r).saying)) ss) others)
+    let m = heard_once (hear_read tables l.held s.time r) [] [] in
+    seen_alike s h m r h.outcome (segments_heard (without_laps tables) h.listening rest) (held_alike tables l s.time r) (pass_alike tables l s.time r)
+    ∙ (ap (λ o. seen_before (seen_as s m r o) (map seen_as_checked (segments_heard (without_laps tables) h.listening rest))) (outcome_alike tables l s.time r)
+    ∙ ap (λ (ss : List SeenSegment). seen_before (seen_by s r m) ss) others)

@@ -6,10 +6,11 @@ use Rattle.book_cmd_check.specs.declared.given.GivenIsns.{GivenIsns}
 use Rattle.book_captures.specs.Captures.{CapturePacket}
 use Rattle.book_sessions.specs.declared.outcome.PassedOver.{PassedOver}
 use Rattle.book_sessions.specs.declared.uses.SeenSegment.{SeenSegment}
+use Rattle.book_sessions.specs.declared.uses.Signs.{Signs}
 use Rattle.book_sessions.specs.declared.uses.KeyUse.{KeyUse}
 use Rattle.book_sessions.specs.Laps.{Judging}
 use Rattle.book_sessions.specs.Listening.{Listening, listen, listening_behind}
-use Rattle.book_sessions.specs.Sessions.{SessionTable, seen_by, is_use_of, session_of, first_use, used_again, with_use, and_segment, and_counted, stored_of_packet, stored_before, all_stored, counted_by, sessions_from, no_sessions, sessions_of}
+use Rattle.book_sessions.specs.Sessions.{SessionTable, seen_by, is_use_of, session_of, first_use, used_again, with_use, signs_of, and_segment, and_counted, stored_of_packet, stored_before, all_stored, counted_by, sessions_from, no_sessions, sessions_of}
 use Rattle.book_sessions.specs.Counts.{seen_before, segments_heard}
 
 -- how many segments are counted of this kind
@@ -24,8 +25,8 @@ sum_of_segments is_one (s ∷ ss) = (if is_one s then 1 else 0) + sum_of_segment
 
 -- what is counted is of the kind exactly where the segments are of it
 pub record IsKind (is_kind : KeyUse → Bool) (is_one : SeenSegment → Bool) : Type 0 where
-  pub first : (number : ℕ) (s : SeenSegment) → is_kind (first_use number s) ≡ is_one s
-  pub again : (s : SeenSegment) (u : KeyUse) → is_kind (used_again s u) ≡ is_kind u
+  pub first : (number : ℕ) (g : Signs) (s : SeenSegment) → is_kind (first_use number g s) ≡ is_one s
+  pub again : (g : Signs) (s : SeenSegment) (u : KeyUse) → is_kind (used_again g s u) ≡ is_kind u
   pub same : (s : SeenSegment) (u : KeyUse) → is_use_of s u ≡ true → is_kind u ≡ is_one s
 
 zero_first : (n : ℕ) → 0 + n ≡ n
@@ -54,18 +55,18 @@ module _ (is_kind : KeyUse → Bool) (is_one : SeenSegment → Bool) (kind : IsK
   abbrev sum : List KeyUse → ℕ
   sum us = sum_of_uses is_kind us
 
-  kind_step : (b : Bool) (session : ℕ) (s : SeenSegment) (u : KeyUse) (us : List KeyUse) → is_use_of s u ≡ b → sum (with_use session s us) ≡ once s + sum us →
-      sum (if b then used_again s u ∷ us else u ∷ with_use session s us) ≡ once s + ((if is_kind u then u.segments else 0) + sum us)
-  kind_step true session s u us is others = more_of (is_kind (used_again s u)) (is_kind u) (is_one s) u.segments (sum us) (kind.again s u) (kind.same s u is)
-  kind_step false session s u us is others = between (once s) (if is_kind u then u.segments else 0) (sum us) (sum (with_use session s us)) others
+  kind_step : (b : Bool) (session : ℕ) (g : Signs) (s : SeenSegment) (u : KeyUse) (us : List KeyUse) → is_use_of s u ≡ b → sum (with_use session g s us) ≡ once s + sum us →
+      sum (if b then used_again g s u ∷ us else u ∷ with_use session g s us) ≡ once s + ((if is_kind u then u.segments else 0) + sum us)
+  kind_step true session g s u us is others = more_of (is_kind (used_again g s u)) (is_kind u) (is_one s) u.segments (sum us) (kind.again g s u) (kind.same s u is)
+  kind_step false session g s u us is others = between (once s) (if is_kind u then u.segments else 0) (sum us) (sum (with_use session g s us)) others
 
-  kind_counted : (session : ℕ) (s : SeenSegment) (us : List KeyUse) → sum (with_use session s us) ≡ once s + sum us
-  kind_counted session s [] = ap (λ (b : Bool). (if b then 1 else 0) + 0) (kind.first session s)
-  kind_counted session s (u ∷ us) = kind_step (is_use_of s u) session s u us refl (kind_counted session s us)
+  kind_counted : (session : ℕ) (g : Signs) (s : SeenSegment) (us : List KeyUse) → sum (with_use session g s us) ≡ once s + sum us
+  kind_counted session g s [] = ap (λ (b : Bool). (if b then 1 else 0) + 0) (kind.first session g s)
+  kind_counted session g s (u ∷ us) = kind_step (is_use_of s u) session g s u us refl (kind_counted session g s us)
 
   segment_kind : (found : Option ℕ) (s : SeenSegment) (t : SessionTable) → sum (and_segment found s t).uses ≡ once s + sum t.uses
-  segment_kind None s t = kind_counted (t.sessions + 1) s t.uses
-  segment_kind (Some session) s t = kind_counted session s t.uses
+  segment_kind None s t = kind_counted (t.sessions + 1) (signs_of s t.uses) s t.uses
+  segment_kind (Some session) s t = kind_counted session (signs_of s t.uses) s t.uses
 
   seen_step : (r : Result SeenSegment PassedOver) (t : SessionTable) (others : List SeenSegment) → sum (and_counted r t).uses + sum_of_segments is_one others ≡ sum t.uses + sum_of_segments is_one (seen_before r others)
   seen_step (Ok s) t others = sum_of _ (once s) (sum t.uses) (sum_of_segments is_one others) (segment_kind (session_of s t.uses) s t)
@@ -78,7 +79,7 @@ module _ (is_kind : KeyUse → Bool) (is_one : SeenSegment → Bool) (kind : IsK
     step_kind (Err why) ps others l t = others l (and_counted (Err why) t)
     step_kind (Ok s) ps others l t =
         let h = listen j l s.time (reading s.bytes) in
-        let r = seen_by s.time (reading s.bytes) h.outcome in
+        let r = seen_by s (reading s.bytes) h in
         others h.listening (and_counted r t) ∙ seen_step r t (segments_heard j h.listening (all_stored ps))
 
     from_kind : (ps : List CapturePacket) (l : Listening) (t : SessionTable) → sum (sessions_from j l t ps).uses ≡ sum t.uses + sum_of_segments is_one (segments_heard j l (all_stored ps))

@@ -1,5 +1,5 @@
 -- The numbers in a table of sessions, and how often something is said (own).
-use Rattle.std.specs.Prelude.{ℕ, ◌+◌, Bool, List, [], ◌∷◌, Result, Ok, Err, if◌then◌else◌}
+use Rattle.std.specs.Prelude.{ℕ, ◌+◌, Bool, false, List, [], ◌∷◌, Result, Ok, Err, if◌then◌else◌}
 use Rattle.book_segments.specs.declared.fault.DatagramFault.{DatagramFault}
 use Rattle.book_segments.specs.Segments.{reading}
 use Rattle.book_keys.specs.Rows.{Table}
@@ -11,8 +11,9 @@ use Rattle.book_sessions.specs.declared.outcome.SegmentOutcome.TheVariants as ou
 use Rattle.book_sessions.specs.declared.uses.KeyUse.{KeyUse}
 use Rattle.book_sessions.specs.declared.uses.PassedCount.{PassedCount}
 use Rattle.book_sessions.specs.declared.uses.SeenSegment.{SeenSegment}
+use Rattle.book_sessions.specs.declared.uses.Signs.{Signs}
 use Rattle.book_sessions.specs.Laps.{Judging}
-use Rattle.book_sessions.specs.Listening.{Listening, listen, outcome_of}
+use Rattle.book_sessions.specs.Listening.{Listening, heard_once, listen, outcome_of}
 use Rattle.book_sessions.specs.Sessions.{same_outcome, seen_by, is_use_of, first_use}
 
 -- so many, if it is the outcome that is asked for (own)
@@ -53,14 +54,14 @@ seen_before (Err why) others = others
 abbrev pub segments_seen : List Table → List Connection → List Stored → List SeenSegment
 segments_seen tables held [] = []
 segments_seen tables held (s ∷ rest) = let h = hear tables held s.time s.bytes in
-    seen_before (seen_by s.time (reading s.bytes) (outcome_of h.saying))
+    seen_before (seen_by s (reading s.bytes) (heard_once h [] []))
     (segments_seen tables h.connections rest)
 
 -- the segments of stored datagrams, each with what comes of it (own)
 abbrev pub segments_heard : Judging → Listening → List Stored → List SeenSegment
 segments_heard j l [] = []
 segments_heard j l (s ∷ rest) = let h = listen j l s.time (reading s.bytes) in
-    seen_before (seen_by s.time (reading s.bytes) h.outcome) (segments_heard j h.listening rest)
+    seen_before (seen_by s (reading s.bytes) h) (segments_heard j h.listening rest)
 
 -- what `check` says of a segment of which this comes: of one whose handshake isn't verified it
 -- knows no context (own)
@@ -78,9 +79,14 @@ abbrev pub outcome_times : SegmentOutcome → List SeenSegment → ℕ
 outcome_times o [] = 0
 outcome_times o (s ∷ ss) = if_outcome o s.outcome 1 + outcome_times o ss
 
--- two segments go the same way with the same KeyID, and the same is said of them (own)
+-- nothing is shown (own)
+abbrev pub no_signs : Signs
+no_signs = record { moves = false; resets = false; finishes = false }
+
+-- two segments go the same way with the same ids, the same is said of them, and they passed under
+-- the same row in the same connection, or both didn't (own)
 abbrev pub is_like : SeenSegment → SeenSegment → Bool
-is_like s other = is_use_of s (first_use 0 other)
+is_like s other = is_use_of s (first_use 0 no_signs other)
 
 -- how many of these are like a segment (own)
 abbrev pub like_times : SeenSegment → List SeenSegment → ℕ

@@ -1,61 +1,25 @@
--- Who used each key of a key file last, and whether anyone asks for it: may it go? (RFC 5925,
--- sections 6.1 and 7.1, and own). Its top is `keys_lines`.
-use Rattle.std.specs.Prelude.{ℕ, suc, ◌==◌, ◌&&◌, ◌||◌, nat_lt, Bool, not, true, false, is_some}
-use Rattle.std.specs.Prelude.{List, [], ◌∷◌, ◌++◌, codes, decimal, Option, Some, None}
-use Rattle.std.specs.Prelude.{if◌then◌else◌}
+-- The lines of the rows of a key file: who used each last, who asks for it, whether it may go, and
+-- what stands in the way. Our own format. Its top is `keys_lines`.
+use Rattle.std.specs.Prelude.{ℕ, suc, ◌&&◌, ◌||◌, nat_lt, Bool, not, true, false, List, [], ◌∷◌}
+use Rattle.std.specs.Prelude.{◌++◌, codes, decimal, Option, Some, None, if◌then◌else◌}
 use Rattle.std.specs.List.{find, flat_map, list_any}
-use Rattle.book_base.specs.declared.address.Pair.{Pair}
-use Rattle.book_base.specs.declared.address.Socket.{Socket}
-use Rattle.book_segments.specs.Sockets.{same_address, same_socket}
-use Rattle.book_keys.specs.Rows.{Row, Table, matches}
+use Rattle.book_base.specs.declared.address.Address.{Address}
+use Rattle.book_keys.specs.Rows.{Row, Table, names}
 use Rattle.book_lines.specs.Texts.{line_text}
 use Rattle.book_scope_texts.specs.Addresses.{usual_address_text}
 use Rattle.book_scope_texts.specs.Instants.{instant_text}
+use Rattle.book_sessions.specs.declared.retiring.MayGo.{MayGo}
+use Rattle.book_sessions.specs.declared.retiring.MayGo.TheVariants as go
 use Rattle.book_sessions.specs.declared.uses.KeyUse.{KeyUse}
 use Rattle.book_sessions.specs.OutcomeTexts.{is_verified}
-use Rattle.book_sessions.specs.Sessions.{same_id}
+use Rattle.book_sessions.specs.Retiring.{Evidence, all_without, asks_for_row, carries_row, goes_from}
+use Rattle.book_sessions.specs.Retiring.{goes_without, does_without, is_at_row, leaves_use, may_go}
+use Rattle.book_sessions.specs.Retiring.{sent_by, sent_to, wants_row}
 
--- there is an id, and it is this one (own)
-abbrev pub is_id : Option ℕ → ℕ → Bool
-is_id None id = false
-is_id (Some one) id = one == id
-
--- what goes between the node's socket and the other one (own)
-abbrev pub between : (own other : Socket) → Pair
-between own other = record { local = own; remote = other }
-
--- the row is for what goes between the two sockets, the first of which is the node's, and this id
--- is its own: of the node's address, the id, and the row's (RFC 7210, section 2)
-abbrev pub is_of_row : Table → Row → Pair → (found : Option ℕ) → (id : ℕ) → Bool
-is_of_row t r pair found id =
-    same_address pair.local.address t.address && (matches r pair && is_id found id)
-
--- the segments carry the KeyID of the row of this node: they were sent by it, or sent to it (RFC
--- 5925, section 6.1)
-abbrev pub carries_row : Table → Row → KeyUse → Bool
-carries_row t r u = is_of_row t r (between u.source u.destination) u.key_id r.send_id
-    || is_of_row t r (between u.destination u.source) u.key_id r.recv_id
-
--- the last of the segments asks for the row of this node: it asks to be sent with it, or the other
--- end asks it to send with it (RFC 5925, section 7.1)
-abbrev pub asks_for_row : Table → Row → KeyUse → Bool
-asks_for_row t r u = is_of_row t r (between u.source u.destination) u.asked r.recv_id
-    || is_of_row t r (between u.destination u.source) u.asked r.send_id
-
--- of what goes the same way, these are with another KeyID, verified, and later: what is unconfirmed
--- doesn't tell that a key may go (own)
-abbrev pub overtakes : (later earlier : KeyUse) → Bool
-overtakes v u = (same_socket v.source u.source && same_socket v.destination u.destination)
-    && ((is_verified v.outcome && not (same_id v.key_id u.key_id)) && nat_lt u.last v.last)
-
--- no later ones with another KeyID go the same way, as far as they are verified (own)
-abbrev pub is_current : List KeyUse → KeyUse → Bool
-is_current uses u = not (list_any (λ v. overtakes v u) uses)
-
--- the later of these and of others, if there are some (own)
+-- of these and others, if there are some, those with the later packet (own)
 abbrev pub later_of : KeyUse → Option KeyUse → KeyUse
 later_of u None = u
-later_of u (Some v) = if nat_lt v.last u.last then u else v
+later_of u (Some v) = if nat_lt v.packet u.packet then u else v
 
 -- those of these segments that were seen last (own)
 abbrev pub last_of : (KeyUse → Bool) → List KeyUse → Option KeyUse
@@ -67,8 +31,12 @@ last_of chosen (u ∷ us) =
 abbrev pub last_texts : Option KeyUse → List (List ℕ) → List (List ℕ)
 last_texts None others = codes "never used" ∷ others
 last_texts (Some u) others = codes "last used" ∷ instant_text u.last
-    ∷ codes "session" ∷ decimal u.session
+    ∷ codes "packet" ∷ decimal u.packet ∷ codes "session" ∷ decimal u.session
     ∷ codes "from" ∷ usual_address_text u.source.address ∷ others
+
+-- these ask for the row, and what goes their way doesn't do without it (own)
+abbrev pub asks_still : Evidence → Table → (n : ℕ) → Row → KeyUse → Bool
+asks_still e t n r u = asks_for_row t r u && not (goes_without (wants_row t n r) e.uses u)
 
 -- who asks for a row (own)
 abbrev pub asking_texts : Option KeyUse → List (List ℕ) → List (List ℕ)
@@ -76,40 +44,115 @@ asking_texts None others = codes "asked for by nobody" ∷ others
 asking_texts (Some u) others = codes "asked for by" ∷ usual_address_text u.source.address
     ∷ codes "session" ∷ decimal u.session ∷ others
 
--- a direction of a session uses the row still (own)
-abbrev pub uses_row_still : List KeyUse → Table → Row → KeyUse → Bool
-uses_row_still uses t r u = carries_row t r u && is_current uses u
+-- whether a row may go (own)
+abbrev pub may_go_text : MayGo → List ℕ
+may_go_text go.Yes = codes "may go yes"
+may_go_text go.No = codes "may go no"
+may_go_text go.Unknown = codes "may go unknown"
 
--- a direction of a session asks for the row still (own)
-abbrev pub asks_row_still : List KeyUse → Table → Row → KeyUse → Bool
-asks_row_still uses t r u = asks_for_row t r u && is_current uses u
+-- a row that is for any peer: what is said of it holds of those that were seen (own)
+abbrev pub seen_peers_text : Bool → List (List ℕ)
+seen_peers_text any = if any then codes "of the peers seen" ∷ [] else []
 
--- a direction of a session uses the row still, or asks for it (own)
-abbrev pub is_wanted : List KeyUse → Table → Row → Bool
-is_wanted uses t r =
-    list_any (uses_row_still uses t r) uses || list_any (asks_row_still uses t r) uses
+-- the peer is `any` (RFC 7210, section 2)
+abbrev pub is_any : Option Address → Bool
+is_any None = true
+is_any (Some address) = false
 
--- whether a key may go: not while it is wanted, and of one that was never used nothing is known
--- (own)
-abbrev pub may_go_text : (used wanted : Bool) → List ℕ
-may_go_text used true = codes "may go no"
-may_go_text true false = codes "may go yes"
-may_go_text false false = codes "may go unknown"
+-- ---- what stands in the way
+
+-- a line of what stands in the way of a row (own)
+abbrev pub obstacle_line : List (List ℕ) → List ℕ
+obstacle_line texts = line_text (codes " " ∷ texts)
+
+-- what an address does, by the last packet of these (own)
+abbrev pub obstacle_by : KeyUse → List ℕ → List ℕ
+obstacle_by u does = obstacle_line (usual_address_text u.source.address ∷ does
+    ∷ codes "packet" ∷ decimal u.packet ∷ codes "at" ∷ instant_text u.last ∷ [])
+
+-- why what goes the way of these doesn't do without the row (own)
+abbrev pub held_text : (verified carries asks : Bool) → List ℕ
+held_text false carries asks = codes "not verified"
+held_text true true asks = codes "still sends with it"
+held_text true false true = codes "asks for it"
+held_text true false false = codes "has not moved on"
+
+-- an address wasn't seen (own)
+abbrev pub unseen_line : Address → List ℕ
+unseen_line address = obstacle_line (usual_address_text address ∷ codes "not seen" ∷ [])
+
+-- where nothing was seen that goes the other way, that (own)
+abbrev pub unanswered_line : Evidence → KeyUse → List ℕ
+unanswered_line e u = if list_any (goes_from u.destination u.source) e.live
+    then [] else unseen_line u.destination.address
+
+-- what stands in the way, of segments at the row (own)
+abbrev pub held_line : Evidence → Table → (n : ℕ) → Row → KeyUse → List ℕ
+held_line e t n r u = if not (goes_without (wants_row t n r) e.uses u)
+    then obstacle_by u
+    (held_text (is_verified u.outcome) (carries_row t n r u) (asks_for_row t r u))
+    else if does_without (wants_row t n r) u.destination u.source e.uses then []
+    else unanswered_line e u
+
+-- the same, if they are at the row (own)
+abbrev pub held_line_at : Evidence → Table → (n : ℕ) → Row → KeyUse → List ℕ
+held_line_at e t n r u = if is_at_row t r u then held_line e t n r u else []
+
+-- these are between the node and this peer (own)
+abbrev pub is_of_peer : Table → Row → Option Address → KeyUse → Bool
+is_of_peer t r p u = (sent_by t r u && names p u.destination.address)
+    || (sent_to t r u && names p u.source.address)
+
+-- a peer of the row wasn't seen (own)
+abbrev pub absent_text : Option Address → List ℕ
+absent_text None = obstacle_line (codes "no peer seen" ∷ [])
+absent_text (Some address) = unseen_line address
+
+-- the same, if it wasn't (own)
+abbrev pub absent_line : Evidence → Table → Row → Option Address → List ℕ
+absent_line e t r p = if list_any (is_of_peer t r p) e.live then [] else absent_text p
+
+-- where the row goes, the two ends of these lack a row to send with (own)
+abbrev pub lacking_line : Evidence → List Table → Table → Row → KeyUse → List ℕ
+lacking_line e tables t r u = if leaves_use tables t r e.latest u then []
+    else obstacle_line (codes "without it no row to send with later"
+    ∷ usual_address_text u.source.address ∷ usual_address_text u.destination.address ∷ [])
+
+-- the same of all that goes on at a row, once all of it does without the row (own)
+abbrev pub lines_without : Evidence → List Table → Table → Row → (without : Bool) → List ℕ
+lines_without e tables t r without =
+    if without then flat_map (lacking_line e tables t r) e.live else []
+
+-- packets were passed over that may be segments (own)
+abbrev pub doubt_line : Bool → List ℕ
+doubt_line doubt =
+    if doubt then obstacle_line (codes "packets passed over that may be segments" ∷ []) else []
+
+-- all that stands in the way of a row (own)
+abbrev pub obstacle_lines : Evidence → List Table → Table → (n : ℕ) → Row → List ℕ
+obstacle_lines e tables t n r =
+    flat_map (held_line_at e t n r) e.live
+    ++ (flat_map (absent_line e t r) r.peers
+    ++ (lines_without e tables t r (all_without e t n r) ++ doubt_line e.doubt))
+
+-- ---- a row
 
 -- the line of the row of this number of a node (own)
-abbrev pub key_line : List KeyUse → Table → (number : ℕ) → Row → List ℕ
-key_line uses t n r =
+abbrev pub key_line : Evidence → List Table → Table → (n : ℕ) → Row → List ℕ
+key_line e tables t n r =
     line_text (codes "key" ∷ decimal n ∷ codes "of" ∷ t.name
     ∷ codes "send-id" ∷ decimal r.send_id ∷ codes "recv-id" ∷ decimal r.recv_id
-    ∷ last_texts (last_of (carries_row t r) uses)
-    (asking_texts (find (asks_row_still uses t r) uses)
-    (may_go_text (is_some (last_of (carries_row t r) uses)) (is_wanted uses t r) ∷ [])))
+    ∷ last_texts (last_of (carries_row t n r) e.uses)
+    (asking_texts (find (asks_still e t n r) e.live)
+    (may_go_text (may_go e tables t n r) ∷ seen_peers_text (list_any is_any r.peers))))
+    ++ obstacle_lines e tables t n r
 
 -- the lines of rows of a node, the first one having number n (own)
-abbrev pub key_lines : List KeyUse → Table → (number : ℕ) → List Row → List ℕ
-key_lines uses t n [] = []
-key_lines uses t n (r ∷ rs) = key_line uses t n r ++ key_lines uses t (suc n) rs
+abbrev pub key_lines : Evidence → List Table → Table → (n : ℕ) → List Row → List ℕ
+key_lines e tables t n [] = []
+key_lines e tables t n (r ∷ rs) =
+    key_line e tables t n r ++ key_lines e tables t (suc n) rs
 
 -- the lines of the rows of all nodes (own)
-abbrev pub keys_lines : List KeyUse → List Table → List ℕ
-keys_lines uses tables = flat_map (λ t. key_lines uses t 1 t.rows) tables
+abbrev pub keys_lines : Evidence → List Table → List ℕ
+keys_lines e tables = flat_map (λ t. key_lines e tables t 1 t.rows) tables

@@ -6,5 +6,6 @@ pub mod Laps
 pub mod Listening
 pub mod OutcomeTexts
 pub mod Passing
+pub mod Retiring
 pub mod SessionTexts
 pub mod Sessions

@@ -1,8 +1,9 @@
 -- What comes of the segments of a capture whose beginning may not have been seen (own). Its top is
 -- `listen`.
-use Rattle.std.specs.Prelude.{ℕ, List, [], Result, Ok, Err, if◌then◌else◌}
+use Rattle.std.specs.Prelude.{ℕ, List, [], Option, Some, None, Result, Ok, Err, if◌then◌else◌}
 use Rattle.book_segments.specs.declared.fault.DatagramFault.{DatagramFault}
 use Rattle.book_segments.specs.Segments.{Segment, Reading, Read, Bad}
+use Rattle.book_endpoint.specs.Verdicts.{Finding}
 use Rattle.book_endpoint.specs.declared.verdict.Verdict.TheVariants.{NoContext}
 use Rattle.book_cmd_check.specs.Captures.{Connection, Heard, Saying, Unreadable, UnknownNode}
 use Rattle.book_cmd_check.specs.Captures.{Judged, TooManyConnections}
@@ -20,10 +21,12 @@ pub record Listening : Type 0 where
   pub guessed : List Connection
   pub openings : List Opening
 
--- what is known after a segment, and what comes of it; or why the bytes are none (own)
+-- what is known after a segment, and what comes of it, or why the bytes are none; and what the
+-- check found of it, where it is verified (own)
 pub record Listened : Type 0 where
   pub listening : Listening
   pub outcome : Result SegmentOutcome DatagramFault
+  pub pass : Option Finding
 
 -- what comes of a segment of which `check` says this, or why the bytes are none (own)
 abbrev pub outcome_of : Saying → Result SegmentOutcome DatagramFault
@@ -32,6 +35,11 @@ outcome_of UnknownNode = Ok outcome.NoNode
 outcome_of (Judged (Ok p) checksum) = Ok outcome.Verified
 outcome_of (Judged (Err why) checksum) = Ok (outcome.Refused why)
 outcome_of (TooManyConnections checksum) = Ok outcome.TooMany
+
+-- what the check found of a segment that passes (own)
+abbrev pub pass_of : Saying → Option Finding
+pass_of (Judged (Ok p) checksum) = Some p
+pass_of _ = None
 
 -- what comes of a segment of which this is said under numbers that were only seen (own)
 abbrev pub unconfirmed_of : Saying → Result SegmentOutcome DatagramFault
@@ -45,6 +53,7 @@ abbrev pub heard_once : Heard → (guessed : List Connection) → List Opening �
 heard_once h guessed openings = record {
   listening = record { held = h.connections; guessed = guessed; openings = openings };
   outcome = outcome_of h.saying;
+  pass = pass_of h.saying;
 }
 
 -- what is known after a segment that was heard by the connections held, and then by those that are
@@ -53,6 +62,7 @@ abbrev pub heard_twice : (by_held by_guessed : Heard) → List Opening → Liste
 heard_twice h k openings = record {
   listening = record { held = h.connections; guessed = k.connections; openings = openings };
   outcome = unconfirmed_of k.saying;
+  pass = None;
 }
 
 -- a segment is heard by what is known; where it has no context by the connections held, it is heard
@@ -68,7 +78,7 @@ listen_to j l now d =
 
 -- what is read of a stored datagram is heard by what is known (own)
 unfoldable pub listen : Judging → Listening → (now : ℕ) → Reading → Listened
-listen j l now (Bad fault) = record { listening = l; outcome = Err fault }
+listen j l now (Bad fault) = record { listening = l; outcome = Err fault; pass = None }
 listen j l now (Read d) = listen_to j l now d
 
 -- what is known before a capture, behind handshakes with the given initial sequence numbers (own)

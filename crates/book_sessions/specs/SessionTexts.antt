@@ -1,5 +1,5 @@
 -- A table of sessions as text. Our own format. Its top is `sessions_text`.
-use Rattle.std.specs.Prelude.{ℕ, zero, suc, ◌==◌, ◌&&◌, ◌||◌, min, max, Bool, not, List, [], ◌∷◌}
+use Rattle.std.specs.Prelude.{ℕ, zero, suc, ◌==◌, ◌&&◌, ◌||◌, min, Bool, not, List, [], ◌∷◌}
 use Rattle.std.specs.Prelude.{◌++◌, codes, decimal, Option, Some, None, if◌then◌else◌}
 use Rattle.std.specs.List.{find, flat_map, list_any}
 use Rattle.book_keys.specs.Rows.{Table}
@@ -11,6 +11,7 @@ use Rattle.book_sessions.specs.declared.uses.PassedCount.{PassedCount}
 use Rattle.book_sessions.specs.OutcomeTexts.{outcome_text, passed_text, is_verified, is_doubtful}
 use Rattle.book_sessions.specs.Counts.{all_counted, all_passed}
 use Rattle.book_sessions.specs.KeyLines.{keys_lines}
+use Rattle.book_sessions.specs.Retiring.{evidence_of, latest_seen}
 use Rattle.book_sessions.specs.Sessions.{SessionTable}
 
 -- a KeyID, or a dash where there is none (own)
@@ -22,11 +23,6 @@ id_text (Some id) = decimal id
 abbrev pub earliest_seen : ℕ → List KeyUse → ℕ
 earliest_seen time [] = time
 earliest_seen time (u ∷ us) = earliest_seen (min time u.first) us
-
--- the latest of a time and of those at which segments were seen (own)
-abbrev pub latest_seen : ℕ → List KeyUse → ℕ
-latest_seen time [] = time
-latest_seen time (u ∷ us) = latest_seen (max time u.last) us
 
 -- from when to when segments were seen (own)
 abbrev pub span_texts : List KeyUse → List (List ℕ)
@@ -66,7 +62,8 @@ abbrev pub use_line : KeyUse → List ℕ
 use_line u = line_text (codes " " ∷ usual_address_text u.source.address ∷ codes ">"
     ∷ usual_address_text u.destination.address ∷ codes "key" ∷ id_text u.key_id
     ∷ outcome_text u.outcome ∷ decimal u.segments ∷ codes "first" ∷ instant_text u.first
-    ∷ codes "last" ∷ instant_text u.last ∷ codes "asks" ∷ id_text u.asked ∷ [])
+    ∷ codes "last" ∷ instant_text u.last ∷ codes "asks" ∷ id_text u.asked
+    ∷ codes "packet" ∷ decimal u.packet ∷ [])
 
 -- the same, if they are of the session of this number (own)
 abbrev pub use_line_in : (number : ℕ) → KeyUse → List ℕ
@@ -93,7 +90,7 @@ unfoldable pub sessions_text : List Table → SessionTable → List ℕ
 sessions_text tables t =
     capture_line (all_counted t.uses) (all_passed t.passed) t.uses
     ++ (flat_map passed_line t.passed ++ (sessions_lines t.uses t.sessions
-    ++ keys_lines t.uses tables))
+    ++ keys_lines (evidence_of t) tables))
 
 -- a segment isn't verified, or a packet that is passed over may be one (own)
 unfoldable pub has_amiss : SessionTable → Bool

@@ -5,9 +5,11 @@
 
 mod laws;
 mod outcome;
+mod retiring;
 mod uses;
 
 pub use book_cmd_check::GivenIsns;
 pub use laws::{counts_are_those_of_the_verdicts, right_macs_pass_the_check};
 pub use outcome::{PassedOver, SegmentOutcome};
-pub use uses::{KeyIds, KeyUse, PassedCount, SeenSegment};
+pub use retiring::{Ending, MayGo, Wanting};
+pub use uses::{FlowIsns, KeyIds, KeyUse, PassedCount, SeenBits, SeenPass, SeenSegment, Signs};

@@ -1,6 +1,6 @@
 -- A table of sessions in JSON: what its text says, line for line. Our own format. Its top is
 -- `sessions_json`.
-use Rattle.std.specs.Prelude.{ℕ, zero, suc, Bool, is_some, List, [], ◌∷◌, ◌++◌, codes}
+use Rattle.std.specs.Prelude.{ℕ, zero, suc, List, [], ◌∷◌, ◌++◌, codes}
 use Rattle.std.specs.Prelude.{decimal, filter, flat_map, map, Option, Some, None}
 use Rattle.std.specs.Prelude.{true, false, if◌then◌else◌}
 use Rattle.std.specs.List.{find, list_any}
@@ -10,12 +10,15 @@ use Rattle.book_segments.specs.Sockets.{same_socket}
 use Rattle.book_keys.specs.Rows.{Row, Table}
 use Rattle.book_scope_texts.specs.Addresses.{usual_address_text}
 use Rattle.book_scope_texts.specs.Instants.{instant_text}
+use Rattle.book_sessions.specs.declared.retiring.MayGo.{MayGo}
+use Rattle.book_sessions.specs.declared.retiring.MayGo.TheVariants as go
 use Rattle.book_sessions.specs.declared.uses.KeyUse.{KeyUse}
 use Rattle.book_sessions.specs.declared.uses.PassedCount.{PassedCount}
 use Rattle.book_sessions.specs.OutcomeTexts.{outcome_text, passed_text}
 use Rattle.book_sessions.specs.Counts.{all_counted, all_passed}
-use Rattle.book_sessions.specs.KeyLines.{asks_row_still, carries_row, is_wanted, last_of}
-use Rattle.book_sessions.specs.SessionTexts.{earliest_seen, latest_seen, is_of_session}
+use Rattle.book_sessions.specs.KeyLines.{asks_still, last_of}
+use Rattle.book_sessions.specs.Retiring.{Evidence, carries_row, evidence_of, latest_seen, may_go}
+use Rattle.book_sessions.specs.SessionTexts.{earliest_seen, is_of_session}
 use Rattle.book_sessions.specs.SessionTexts.{opens_session, has_amiss}
 use Rattle.book_sessions.specs.Sessions.{SessionTable}
 use Rattle.book_sessions_json.specs.Json.{json_string, json_array, json_object, json_member}
@@ -76,7 +79,8 @@ use_json heading u = json_object (json_member (codes "sender") (decimal (sender_
     ∷ json_member (codes "segments") (decimal u.segments)
     ∷ json_member (codes "first") (time_json u.first)
     ∷ json_member (codes "last") (time_json u.last)
-    ∷ json_member (codes "asks") (id_json u.asked) ∷ [])
+    ∷ json_member (codes "asks") (id_json u.asked)
+    ∷ json_member (codes "packet") (decimal u.packet) ∷ [])
 
 -- the segments of the session of this number (own)
 abbrev pub uses_json : (number : ℕ) → (heading : KeyUse) → List KeyUse → List ℕ
@@ -105,6 +109,7 @@ numbers_to (suc n) = numbers_to n ++ suc n ∷ []
 unfoldable pub last_used_json : Option KeyUse → List ℕ
 last_used_json None = json_null
 last_used_json (Some u) = json_object (json_member (codes "at") (time_json u.last)
+    ∷ json_member (codes "packet") (decimal u.packet)
     ∷ json_member (codes "session") (decimal u.session)
     ∷ json_member (codes "from") (address_json u.source.address) ∷ [])
 
@@ -114,32 +119,30 @@ asked_for_json None = json_null
 asked_for_json (Some u) = json_object (json_member (codes "by") (address_json u.source.address)
     ∷ json_member (codes "session") (decimal u.session) ∷ [])
 
--- whether a key may go: not while it is wanted, and of one that was never used nothing is known
--- (own)
-abbrev pub may_go_json : (used wanted : Bool) → List ℕ
-may_go_json used true = json_bool false
-may_go_json true false = json_bool true
-may_go_json false false = json_null
+-- whether a row may go, if that is known (own)
+abbrev pub may_go_json : MayGo → List ℕ
+may_go_json go.Yes = json_bool true
+may_go_json go.No = json_bool false
+may_go_json go.Unknown = json_null
 
 -- the row of this number of a node (own)
-unfoldable pub key_json : List KeyUse → Table → (number : ℕ) → Row → List ℕ
-key_json uses t n r = json_object (json_member (codes "node") (json_string t.name)
+unfoldable pub key_json : Evidence → List Table → Table → (number : ℕ) → Row → List ℕ
+key_json e tables t n r = json_object (json_member (codes "node") (json_string t.name)
     ∷ json_member (codes "row") (decimal n)
     ∷ json_member (codes "send_id") (decimal r.send_id)
     ∷ json_member (codes "recv_id") (decimal r.recv_id)
-    ∷ json_member (codes "last_used") (last_used_json (last_of (carries_row t r) uses))
-    ∷ json_member (codes "asked_for") (asked_for_json (find (asks_row_still uses t r) uses))
-    ∷ json_member (codes "may_go")
-    (may_go_json (is_some (last_of (carries_row t r) uses)) (is_wanted uses t r)) ∷ [])
+    ∷ json_member (codes "last_used") (last_used_json (last_of (carries_row t n r) e.uses))
+    ∷ json_member (codes "asked_for") (asked_for_json (find (asks_still e t n r) e.live))
+    ∷ json_member (codes "may_go") (may_go_json (may_go e tables t n r)) ∷ [])
 
 -- the rows of a node, the first one having number n (own)
-abbrev pub rows_json : List KeyUse → Table → (number : ℕ) → List Row → List (List ℕ)
-rows_json uses t n [] = []
-rows_json uses t n (r ∷ rs) = key_json uses t n r ∷ rows_json uses t (suc n) rs
+abbrev pub rows_json : Evidence → List Table → Table → (number : ℕ) → List Row → List (List ℕ)
+rows_json e tables t n [] = []
+rows_json e tables t n (r ∷ rs) = key_json e tables t n r ∷ rows_json e tables t (suc n) rs
 
 -- the rows of all nodes (own)
-abbrev pub keys_json : List KeyUse → List Table → List (List ℕ)
-keys_json uses tables = flat_map (λ t. rows_json uses t 1 t.rows) tables
+abbrev pub keys_json : Evidence → List Table → List (List ℕ)
+keys_json e tables = flat_map (λ t. rows_json e tables t 1 t.rows) tables
 
 -- a table of sessions: the capture's packets, each session, each key of the key file, and whether
 -- anything is amiss; a line feed behind (own)
@@ -147,5 +150,5 @@ unfoldable pub sessions_json : List Table → SessionTable → List ℕ
 sessions_json tables t = json_object (json_member (codes "packets") (packets_json t)
     ∷ json_member (codes "sessions")
     (json_array (map (session_json t.uses) (numbers_to t.sessions)))
-    ∷ json_member (codes "keys") (json_array (keys_json t.uses tables))
+    ∷ json_member (codes "keys") (json_array (keys_json (evidence_of t) tables))
     ∷ json_member (codes "amiss") (json_bool (has_amiss t)) ∷ []) ++ 10 ∷ []

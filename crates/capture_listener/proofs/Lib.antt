@@ -5,3 +5,4 @@ pub mod LineLaws
 pub mod ListenLaws
 pub mod OpeningLaws
 pub mod OverLaws
+pub mod PassLaws

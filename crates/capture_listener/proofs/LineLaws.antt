@@ -1,19 +1,20 @@
 -- What a line of a checker says is what the definitions say of its segment.
-use Rattle.std.proofs.Common.{◌≡◌, true, false, not, refl, Ok}
+use Rattle.std.proofs.Common.{◌≡◌, true, false, not, refl, Ok, Option, Some, None}
 use Rattle.std.specs.Prelude.{◌&&◌}
 use Rattle.book_segments.specs.Segments.{Segment, has, SYN}
 use Rattle.book_cmd_show.specs.declared.checksum.Checksum.{Checksum}
 use Rattle.book_cmd_check.specs.Captures.{Saying, Judged}
-use Rattle.book_endpoint.specs.Verdicts.{Judgement}
+use Rattle.book_endpoint.specs.Verdicts.{Finding, Judgement}
+use Rattle.book_endpoint.specs.declared.verdict.Passed.{Passed}
 use Rattle.book_endpoint.specs.declared.verdict.Verdict.{Verdict}
 use Rattle.book_endpoint.specs.declared.verdict.Verdict.TheVariants.{Pass, NoAo, TwoAo, WithMd5, NoTuple, Expired, MacLength, NoContext, Range, BadMac}
 use Rattle.book_sessions.specs.Glimpses.{is_judged, is_refused, is_unknown}
 use Rattle.book_sessions.specs.Laps.{is_searched}
-use Rattle.book_sessions.specs.Listening.{outcome_of, unconfirmed_of}
+use Rattle.book_sessions.specs.Listening.{outcome_of, pass_of, unconfirmed_of}
 use Rattle.capture_check.specs.declared.answer.CheckLine.{CheckLine}
 use Rattle.capture_check.specs.declared.answer.CheckLine.TheVariants as line
-use Rattle.capture_check.specs.Answers.{IsJudged, Says}
-use Rattle.capture_listener.specs.Lines.{is_readable, is_refusal, says_judged, says_refused, says_unknown, says_searched, by_verdict, by_unconfirmed, by_line, by_seen_line}
+use Rattle.capture_check.specs.Answers.{IsFound, IsJudged, Says}
+use Rattle.capture_listener.specs.Lines.{is_readable, is_refusal, says_judged, says_refused, says_unknown, says_searched, by_verdict, by_unconfirmed, by_line, by_seen_line, pass_by_line, pass_by_verdict}
 
 -- a verdict is a refusal where its judgement is
 verdict_refused : (v : Verdict) (checksum : Checksum) (j : Judgement) → IsJudged v j → is_refusal v ≡ is_refused (Judged j checksum)
@@ -131,3 +132,28 @@ unknown_refused (line.Verdict MacLength checksum) e = absurd (cc)
 unknown_refused (line.Verdict NoContext checksum) e = refl
 unknown_refused (line.Verdict Range checksum) e = absurd (cc)
 unknown_refused (line.Verdict BadMac checksum) e = absurd (cc)
+
+-- ---- what was found of a segment that passes
+
+-- what is told of a segment that passed is what was found of it; nothing of others
+abbrev pub TellsPass : Option Passed → Option Finding → Type 0
+TellsPass None found = found ≡ None
+TellsPass (Some p) found = (entry : Finding) × (found ≡ Some entry) × IsFound p entry
+
+pass_judged : (v : Verdict) (j : Judgement) (checksum : Checksum) → IsJudged v j → TellsPass (pass_by_verdict v) (pass_of (Judged j checksum))
+pass_judged (Pass p) j checksum (entry, is, F) = (entry, rw is refl, F)
+pass_judged NoAo j checksum e = rw e refl
+pass_judged TwoAo j checksum e = rw e refl
+pass_judged WithMd5 j checksum e = rw e refl
+pass_judged NoTuple j checksum e = rw e refl
+pass_judged Expired j checksum e = rw e refl
+pass_judged MacLength j checksum e = rw e refl
+pass_judged NoContext j checksum e = rw e refl
+pass_judged Range j checksum e = rw e refl
+pass_judged BadMac j checksum e = rw e refl
+
+pub pass_told : (l : CheckLine) (s : Saying) → Says l s → TellsPass (pass_by_line l) (pass_of s)
+pass_told (line.Bad fault) s e = rw e refl
+pass_told line.UnknownNode s e = rw e refl
+pass_told (line.Verdict v checksum) s (j, e, t) = rw e (pass_judged v j checksum t)
+pass_told (line.Full checksum) s e = rw e refl

@@ -2,4 +2,5 @@ pub mod Begun
 pub mod Lines
 pub mod Listeners
 pub mod Openings
+pub mod Passes
 pub mod Searches

@@ -1,6 +1,7 @@
 -- What a line of a checker says of a segment (own).
-use Rattle.std.specs.Prelude.{Bool, true, false, ◌||◌}
+use Rattle.std.specs.Prelude.{Bool, true, false, ◌||◌, Option, Some, None}
 use Rattle.book_cmd_check.specs.Captures.{Saying, Unreadable}
+use Rattle.book_endpoint.specs.declared.verdict.Passed.{Passed}
 use Rattle.book_endpoint.specs.declared.verdict.Verdict.{Verdict}
 use Rattle.book_endpoint.specs.declared.verdict.Verdict.TheVariants as verdicts
 use Rattle.book_sessions.specs.declared.outcome.SegmentOutcome.{SegmentOutcome}
@@ -71,3 +72,13 @@ by_seen_line (line.Bad fault) = outcome.NoNode
 by_seen_line line.UnknownNode = outcome.NoNode
 by_seen_line (line.Verdict v checksum) = by_unconfirmed v
 by_seen_line (line.Full checksum) = outcome.TooMany
+
+-- what is told of a segment that passes, with this verdict (own)
+abbrev pub pass_by_verdict : Verdict → Option Passed
+pass_by_verdict (verdicts.Pass p) = Some p
+pass_by_verdict _ = None
+
+-- the same, with this line (own)
+abbrev pub pass_by_line : CheckLine → Option Passed
+pass_by_line (line.Verdict v checksum) = pass_by_verdict v
+pass_by_line _ = None

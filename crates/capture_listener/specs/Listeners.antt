@@ -1,12 +1,13 @@
 -- A listener: how it judges, and what it knows while a capture is heard (own).
-use Rattle.std.specs.Prelude.{◌≡◌, ℕ, ◌⊎◌, List, Ok}
+use Rattle.std.specs.Prelude.{◌≡◌, ℕ, ◌⊎◌, List, Ok, option_map}
 use Rattle.book_base.specs.declared.address.Pair.{Pair}
 use Rattle.book_segments.specs.Segments.{Segment}
 use Rattle.book_cmd_check.specs.Captures.{Connection}
-use Rattle.book_sessions.specs.declared.outcome.SegmentOutcome.{SegmentOutcome}
+use Rattle.capture_listener.specs.declared.outcomes.HeardSegment.{HeardSegment}
 use Rattle.book_sessions.specs.Glimpses.{Opening, glimpsed, openings_after}
 use Rattle.book_sessions.specs.Laps.{Judging, hear_over}
 use Rattle.book_sessions.specs.Listening.{Listened, Listening}
+use Rattle.book_sessions.specs.Sessions.{seen_pass}
 use Rattle.capture_check.specs.declared.flows.Flows.{Flows}
 use Rattle.capture_check.specs.Checkers.{StandsFor}
 use Rattle.capture_listener.specs.Openings.{KeepsOpenings}
@@ -25,9 +26,11 @@ pub record Knows (l : Hearing) (k : Listening) : Type 0 where
   pub guessed : StandsFor l.guessed k.guessed
   pub openings : KeepsOpenings l.openings k.openings
 
--- the answer is what comes of a segment, and the listener knows what is known after it (own)
-pub record Listens (after : Hearing) (told : SegmentOutcome) (l : Listened) : Type 0 where
-  pub outcome : l.outcome ≡ Ok told
+-- the answer is what comes of a segment and what was found of it, and the listener knows what is
+-- known after it (own)
+pub record Listens (after : Hearing) (told : HeardSegment) (d : Segment) (l : Listened) : Type 0 where
+  pub outcome : l.outcome ≡ Ok told.outcome
+  pub pass : told.pass ≡ option_map (seen_pass d l.listening.held) l.pass
   pub knows : Knows after l.listening
 
 -- what is taken to have begun once a segment was seen (own)

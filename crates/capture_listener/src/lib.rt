@@ -11,8 +11,10 @@ mod lines;
 mod listener;
 mod openings;
 mod outcomes;
+mod passes;
 
 pub use book_cmd_check::GivenIsns;
 pub use book_sessions::SegmentOutcome;
 pub use ids::key_ids;
 pub use listener::Listener;
+pub use outcomes::HeardSegment;

@@ -9,10 +9,10 @@ use crate::glimpses::{glimpse, note_opening};
 use crate::laps::hear_over;
 use crate::lines::is_unknown;
 use crate::openings::Openings;
-use crate::outcomes::{by_line, by_seen_line};
+use crate::outcomes::{HeardSegment, by_line, by_seen_line};
+use crate::passes::seen_pass;
 use ao_base::Steps;
 use book_cmd_check::GivenIsns;
-use book_sessions::SegmentOutcome;
 use capture_check::Connections;
 use key_table::Tables;
 use std::alloc::{AllocError, Global};
@@ -94,7 +94,8 @@ impl Listener {
         self.held.hold(alloc, &self.tables, given)
     }
 
-    /// What comes of a datagram that was stored at a time, in seconds since 1970: the answer, and what
+    /// What comes of a datagram that was stored at a time, in seconds since 1970, and what the check found of it
+    /// where it is verified: the answer, and what
     /// the listener knows afterwards, are those of the definition, whatever was known. After want of
     /// memory it knows what was known, but perhaps the connection too that the datagram shows to have
     /// begun, or the SYN that it is.
@@ -104,8 +105,8 @@ impl Listener {
         time: u64,
         datagram: &Datagram<'_>,
         steps: &mut Steps<L>,
-    ) -> Result<SegmentOutcome, AllocError>
-        ensures heard { (k : Listening) → Knows self.old k → IfOk result (λ outcome. Listens self.new outcome (listen self.old.judging k time (Read datagram.now))) }
+    ) -> Result<HeardSegment, AllocError>
+        ensures heard { (k : Listening) → Knows self.old k → IfOk result (λ told. Listens self.new told datagram.now (listen self.old.judging k time (Read datagram.now))) }
         ensures still { (k : Listening) → Knows self.old k → OnErr result (KnowsStill self.new self.old.judging k time datagram.now) }
         ensures judging { self.new.judging ≡ self.old.judging }
     {
@@ -128,7 +129,10 @@ impl Listener {
         )?;
         note_opening(&mut self.openings, datagram, &line)?;
         if !is_unknown(&line) {
-            return Ok(by_line(&line));
+            return Ok(HeardSegment {
+                outcome: by_line(&line),
+                pass: seen_pass(&self.held, datagram, &line),
+            });
         }
         let further = hear_over(
             &mut self.guesses,
@@ -139,6 +143,9 @@ impl Listener {
             datagram,
             steps,
         )?;
-        Ok(by_seen_line(&further))
+        Ok(HeardSegment {
+            outcome: by_seen_line(&further),
+            pass: None,
+        })
     }
 }

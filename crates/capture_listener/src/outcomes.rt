@@ -3,8 +3,15 @@ ghost use Rattle.std.specs.Prelude.{◌≡◌};
 ghost use Rattle.capture_listener.specs.Lines.{by_line, by_seen_line, by_unconfirmed, by_verdict};
 
 use book_endpoint::Verdict;
-use book_sessions::SegmentOutcome;
+use book_sessions::{SeenPass, SegmentOutcome};
 use capture_check::CheckLine;
+
+/// What comes of a segment, and what the check found of it where it is verified.
+#[derive(Clone, Copy, Debug, PartialEq, Eq)]
+pub struct HeardSegment {
+    pub outcome: SegmentOutcome,
+    pub pass: Option<SeenPass>,
+}
 
 fn by_verdict(verdict: &Verdict) -> SegmentOutcome
     ensures { result ≡ by_verdict verdict.now }

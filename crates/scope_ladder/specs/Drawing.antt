@@ -60,12 +60,12 @@ pub record Follows (q : Request) (d : Drawer) (rungs : List SessionRung) (k : Li
 
 -- what was read of a datagram that was seen at this time was drawn: it added these segments to the rungs, and
 -- the text to the ladder, if one of text is asked for
-pub record AddsRead (q : Request) (d : Drawer) (rungs : List SessionRung) (k : Listening) (time : ℕ) (r : Reading) : Type 0 where
+pub record AddsRead (q : Request) (d : Drawer) (rungs : List SessionRung) (k : Listening) (packet time : ℕ) (r : Reading) : Type 0 where
   pub more : List SessionRung
   pub after : Listening
   pub follows : Follows q d (rungs ++ more) after
   pub comes : (others : Listening → List SessionRung) →
-      (let h = listen q.judging k (time / 1000000000) r in rung_before time r h.outcome (others h.listening)) ≡ more ++ others after
+      (let h = listen q.judging k (time / 1000000000) r in rung_before packet time h r (others h.listening)) ≡ more ++ others after
   pub text : q.form ≡ Text → session_ladder q.number (rungs ++ more) ≡ session_ladder q.number rungs ++ d.text.items
 
 -- the same of a packet seen at this time of which this is judged

@@ -14,8 +14,8 @@ use crate::search::{Search, Shown};
 use ao_base::Steps;
 use book_draw_session::SessionRung;
 use book_draw_session_svg::LadderForm;
-use book_sessions::{GivenIsns, SegmentOutcome};
-use capture_listener::{Listener, key_ids};
+use book_sessions::GivenIsns;
+use capture_listener::{HeardSegment, Listener, key_ids};
 use capture_reader::FoundDatagram;
 use capture_stream::{CaptureReader, Skipped};
 use draw_session_rungs::{push_ends, push_rung};
@@ -39,10 +39,16 @@ pub(crate) struct Drawer {
     pub(crate) kept: Vec<SessionRung>,
 }
 
-fn session_rung(time: u64, datagram: &Datagram<'_>, outcome: SegmentOutcome) -> SessionRung
-    ensures { result ≡ session_rung time datagram.now outcome }
+fn session_rung(
+    packet: u64,
+    time: u64,
+    datagram: &Datagram<'_>,
+    heard: HeardSegment,
+) -> SessionRung
+    ensures { result ≡ session_rung packet time datagram.now heard.outcome heard.pass }
 {
     SessionRung {
+        packet,
         time,
         source: datagram.source(),
         destination: datagram.destination(),
@@ -51,7 +57,8 @@ fn session_rung(time: u64, datagram: &Datagram<'_>, outcome: SegmentOutcome) -> 
         acknowledgement: datagram.acknowledgement(),
         length: datagram.payload().len() as u64,
         ids: key_ids(datagram),
-        outcome,
+        outcome: heard.outcome,
+        pass: heard.pass,
     }
 }
 
@@ -145,18 +152,19 @@ impl Drawer {
         &mut self,
         alloc: Global,
         steps: &mut Steps<L>,
+        packet: u64,
         time: u64,
         datagram: &Datagram<'_>,
     ) -> Result<(), AllocError>
         requires { self.old.text.items ≡ [] }
         ensures { (q : Request) (rungs : List Segment) (k : Listening) → Follows q self.old rungs k
-            → OnOk result (AddsRead q self.new rungs k time (Read datagram.now)) }
+            → OnOk result (AddsRead q self.new rungs k packet time (Read datagram.now)) }
     {
-        let outcome = self
+        let heard = self
             .listener
             .hear(alloc, time / NANOSECONDS, datagram, steps)?;
         let form = self.form;
-        let rung = session_rung(time, datagram, outcome);
+        let rung = session_rung(packet, time, datagram, heard);
         let shown = self.search.place(&rung)?;
         push_shown(&mut self.text, form, shown, &rung)?;
         keep_shown(&mut self.kept, form, shown, &rung)
@@ -167,16 +175,17 @@ impl Drawer {
         &mut self,
         alloc: Global,
         steps: &mut Steps<L>,
+        packet: u64,
         time: u64,
         bytes: &[u8],
     ) -> Result<(), AllocError>
         requires { self.old.text.items ≡ [] }
-        ensures { (q : Request) (rungs : List Segment) (k : Listening) (number : ℕ) → Follows q self.old rungs k
-            → OnOk result (Adds q self.new rungs k (Some time) (Ok (record { number = number; time = time / 1000000000; bytes = bytes.now }))) }
+        ensures { (q : Request) (rungs : List Segment) (k : Listening) → Follows q self.old rungs k
+            → OnOk result (Adds q self.new rungs k (Some time) (Ok (record { number = packet; time = time / 1000000000; bytes = bytes.now }))) }
     {
         match read_datagram(bytes) {
             Err(_) => Ok(()),
-            Ok(datagram) => self.draw_datagram(alloc, steps, time, &datagram),
+            Ok(datagram) => self.draw_datagram(alloc, steps, packet, time, &datagram),
         }
     }
 
@@ -185,20 +194,23 @@ impl Drawer {
         &mut self,
         alloc: Global,
         steps: &mut Steps<L>,
+        packet: u64,
         time: Option<u64>,
         frame: &[u8],
         found: Result<FoundDatagram, Skipped>,
     ) -> Result<(), AllocError>
         requires found { IfOk found (λ d. (d.first ≤ d.after) × (d.after ≤ length frame.now)) }
         requires text { self.old.text.items ≡ [] }
-        ensures { (q : Request) (rungs : List Segment) (k : Listening) (number : ℕ) → Follows q self.old rungs k
-            → OnOk result (Adds q self.new rungs k time (stored_by number time (found_in frame.now found))) }
+        ensures { (q : Request) (rungs : List Segment) (k : Listening) → Follows q self.old rungs k
+            → OnOk result (Adds q self.new rungs k time (stored_by packet time (found_in frame.now found))) }
     {
         match found {
             Err(_) => Ok(()),
             Ok(datagram) => match time {
                 None => Ok(()),
-                Some(time) => self.draw_stored(alloc, steps, time, judged(frame, datagram.first)),
+                Some(time) => {
+                    self.draw_stored(alloc, steps, packet, time, judged(frame, datagram.first))
+                }
             },
         }
     }
@@ -218,6 +230,7 @@ impl Drawer {
         self.draw_found(
             alloc,
             steps,
+            reader.number(),
             reader.time(),
             reader.frame(),
             reader.datagram(),

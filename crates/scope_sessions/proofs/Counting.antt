@@ -11,11 +11,11 @@ use Rattle.book_sessions.specs.declared.outcome.PassedOver.{PassedOver}
 use Rattle.book_sessions.specs.declared.uses.KeyUse.{KeyUse}
 use Rattle.book_sessions.specs.declared.uses.SeenSegment.{SeenSegment}
 use Rattle.book_sessions.specs.Laps.{Judging}
-use Rattle.book_sessions.specs.declared.outcome.SegmentOutcome.{SegmentOutcome}
+use Rattle.capture_listener.specs.declared.outcomes.HeardSegment.{HeardSegment}
 use Rattle.book_sessions.specs.Listening.{Listened, Listening, listen}
 use Rattle.book_sessions.specs.Sessions.{SessionTable, and_counted, seen_by, seen_segment, stored_by, stored_of_packet}
 use Rattle.book_sessions.specs.KeyLines.{last_of, later_of}
-use Rattle.capture_listener.specs.Listeners.{Hearing, Knows}
+use Rattle.capture_listener.specs.Listeners.{Hearing, Knows, Listens}
 use Rattle.capture_reader.specs.declared.frames.FoundDatagram.{FoundDatagram}
 use Rattle.capture_reader.specs.Found.{Gives, seen}
 use Rattle.scope_lines.specs.Writes.{found_in}
@@ -30,7 +30,7 @@ counts_passed j k after before now why stands is = record { known = k; knows = s
 
 -- bytes that were stored
 pub counts_heard : (j : Judging) (k : Listening) (after : Hearing) (before now : SessionTable) (s : Stored) (seen : Result SeenSegment PassedOver) → Knows after (listen j k s.time (reading s.bytes)).listening →
-    seen ≡ seen_by s.time (reading s.bytes) (listen j k s.time (reading s.bytes)).outcome → now ≡ and_counted seen before → CountsStored j k after before now (Ok s)
+    seen ≡ seen_by s (reading s.bytes) (listen j k s.time (reading s.bytes)) → now ≡ and_counted seen before → CountsStored j k after before now (Ok s)
 counts_heard j k after before now s seen stands is counted = record {
   known = (listen j k s.time (reading s.bytes)).listening;
   knows = stands;
@@ -46,19 +46,20 @@ stored_is : (p : CapturePacket) (time : Option ℕ) (frame : List ℕ) (found : 
 stored_is p time frame found time_is frame_is gives = rw (time_is, frame_is, given_found p.frame.bytes found (frame_datagram p.frame) gives) refl
 
 -- the packet that is shown
-counts_shown : (j : Judging) (k : Listening) (after : Hearing) (before now : SessionTable) (packet : Option CapturePacket) (p : CapturePacket) (time : Option ℕ) (frame : List ℕ) (found : Result FoundDatagram Skipped) →
-    packet ≡ Some p → IfSome packet (λ p. time ≡ p.frame.time) → IfSome packet (λ p. frame ≡ p.frame.bytes) → IfSome packet (λ p. Gives (seen p.frame.bytes) found (frame_datagram p.frame)) →
-    CountsStored j k after before now (stored_by p.number time (found_in frame found)) → CountsPacket j k after before now p
-counts_shown j k after before now packet p time frame found is time_is frame_is gives counts =
-    let c = rw (stored_is p time frame found (rw is at time_is) (rw is at frame_is) (rw is at gives)) at counts in
+counts_shown : (j : Judging) (k : Listening) (after : Hearing) (before now : SessionTable) (packet : Option CapturePacket) (p : CapturePacket) (number : ℕ) (time : Option ℕ) (frame : List ℕ) (found : Result FoundDatagram Skipped) →
+    packet ≡ Some p → IfSome packet (λ p. number ≡ p.number) → IfSome packet (λ p. time ≡ p.frame.time) → IfSome packet (λ p. frame ≡ p.frame.bytes) → IfSome packet (λ p. Gives (seen p.frame.bytes) found (frame_datagram p.frame)) →
+    CountsStored j k after before now (stored_by number time (found_in frame found)) → CountsPacket j k after before now p
+counts_shown j k after before now packet p number time frame found is number_is time_is frame_is gives counts =
+    let c = rw (rw is at number_is, stored_is p time frame found (rw is at time_is) (rw is at frame_is) (rw is at gives)) at counts in
     record { known = c.known; knows = c.knows; counts = c.counts }
 
 -- the same, unless memory ran out
-pub counts_on : {E : Type 0} (result : Result (Unit {0}) E) (j : Judging) (k : Listening) (after : Hearing) (before now : SessionTable) (packet : Option CapturePacket) (p : CapturePacket) (time : Option ℕ) (frame : List ℕ) (found : Result FoundDatagram Skipped) →
-    packet ≡ Some p → IfSome packet (λ p. time ≡ p.frame.time) → IfSome packet (λ p. frame ≡ p.frame.bytes) → IfSome packet (λ p. Gives (seen p.frame.bytes) found (frame_datagram p.frame)) →
-    OnOk result (CountsStored j k after before now (stored_by p.number time (found_in frame found))) → OnOk result (CountsPacket j k after before now p)
-counts_on (Ok done) j k after before now packet p time frame found is time_is frame_is gives counts = counts_shown j k after before now packet p time frame found is time_is frame_is gives counts
-counts_on (Err e) j k after before now packet p time frame found is time_is frame_is gives counts = tt
+pub counts_on : {E : Type 0} (result : Result (Unit {0}) E) (j : Judging) (k : Listening) (after : Hearing) (before now : SessionTable) (packet : Option CapturePacket) (p : CapturePacket) (number : ℕ) (time : Option ℕ) (frame : List ℕ) (found : Result FoundDatagram Skipped) →
+    packet ≡ Some p → IfSome packet (λ p. number ≡ p.number) → IfSome packet (λ p. time ≡ p.frame.time) → IfSome packet (λ p. frame ≡ p.frame.bytes) → IfSome packet (λ p. Gives (seen p.frame.bytes) found (frame_datagram p.frame)) →
+    OnOk result (CountsStored j k after before now (stored_by number time (found_in frame found))) → OnOk result (CountsPacket j k after before now p)
+counts_on (Ok done) j k after before now packet p number time frame found is number_is time_is frame_is gives counts =
+    counts_shown j k after before now packet p number time frame found is number_is time_is frame_is gives counts
+counts_on (Err e) j k after before now packet p number time frame found is number_is time_is frame_is gives counts = tt
 
 -- where its datagram lies in its frame
 pub found_within : (packet : Option CapturePacket) (frame : List ℕ) (found : Result FoundDatagram Skipped) → IsSome packet → IfSome packet (λ p. frame ≡ p.frame.bytes) → IfOk found (λ d. d.first ≤ d.after)
@@ -85,17 +86,17 @@ last_more chosen uses left u last low here is =
     rw (cut, is) refl
 
 -- what is heard of bytes that are no datagram
-pub heard_bad : (j : Judging) (k : Listening) (after : Hearing) (time : ℕ) (bytes : Reading) (fault : DatagramFault) → bytes ≡ Bad fault → Knows after k
-    → IsHeard time bytes (Err (passed.Faulty fault)) after (listen j k time bytes)
+pub heard_bad : (j : Judging) (k : Listening) (after : Hearing) (s : Stored) (bytes : Reading) (fault : DatagramFault) → bytes ≡ Bad fault → Knows after k
+    → IsHeard s bytes (Err (passed.Faulty fault)) after (listen j k s.time bytes)
 unfolding listen
-heard_bad j k after time bytes fault is knows = rw is (record { seen = refl; knows = knows })
+heard_bad j k after s bytes fault is knows = rw is (record { seen = refl; knows = knows })
 
 -- bytes that were stored, unless memory ran out
 pub stored_on : {E : Type 0} (result : Result (Unit {0}) E) (j : Judging) (k : Listening) (after : Hearing) (before now : SessionTable) (s : Stored) (seen : Result SeenSegment PassedOver)
-    → IsHeard s.time (reading s.bytes) seen after (listen j k s.time (reading s.bytes)) → OnOk result (now ≡ and_counted seen before) → OnOk result (CountsStored j k after before now (Ok s))
+    → IsHeard s (reading s.bytes) seen after (listen j k s.time (reading s.bytes)) → OnOk result (now ≡ and_counted seen before) → OnOk result (CountsStored j k after before now (Ok s))
 stored_on (Ok done) j k after before now s seen heard counted = counts_heard j k after before now s seen heard.knows heard.seen counted
 stored_on (Err e) j k after before now s seen heard counted = tt
 
 -- a segment is seen so, of which this is told
-pub seen_told : (time : ℕ) (d : Segment) (l : Listened) (told : SegmentOutcome) (s : SeenSegment) → l.outcome ≡ Ok told → s ≡ seen_segment time d told → IsSeen time d s l
-seen_told time d l told s e is = rw (e, is) refl
+pub seen_told : (after : Hearing) (stored : Stored) (d : Segment) (l : Listened) (told : HeardSegment) (s : SeenSegment) → Listens after told d l → s ≡ seen_segment stored d told.outcome told.pass → IsSeen stored d s l
+seen_told after stored d l told s h is = rw (h.outcome, is, h.pass) refl

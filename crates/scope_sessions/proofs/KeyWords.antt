@@ -7,7 +7,9 @@ use Rattle.book_keys.specs.Rows.{Row, Table}
 use Rattle.book_lines.specs.Texts.{spaced}
 use Rattle.book_sessions.specs.declared.uses.KeyUse.{KeyUse}
 use Rattle.book_sessions.specs.Counts.{all_counted, all_passed}
-use Rattle.book_sessions.specs.KeyLines.{asking_texts, asks_row_still, carries_row, is_wanted, key_line, key_lines, keys_lines, last_of, last_texts}
+use Rattle.book_sessions.specs.declared.retiring.MayGo.{MayGo}
+use Rattle.book_sessions.specs.KeyLines.{asking_texts, asks_still, key_line, key_lines, keys_lines, last_of, last_texts, obstacle_lines, seen_peers_text}
+use Rattle.book_sessions.specs.Retiring.{Evidence, carries_row, evidence_of, may_go}
 use Rattle.scope_sessions.specs.KeyRows.{found_line}
 use Rattle.book_sessions.specs.Sessions.{SessionTable}
 use Rattle.book_sessions.specs.SessionTexts.{capture_line, passed_line, sessions_lines, sessions_text}
@@ -24,50 +26,57 @@ asking_first : (asking : Option KeyUse) (others : List (List ℕ)) → asking_te
 asking_first None others = refl
 asking_first (Some u) others = refl
 
-words_are : (last asking : Option KeyUse) (may : List ℕ) → spaced (last_texts last (asking_texts asking (may ∷ []))) ≡ spaced (last_texts last []) ++ (spaced (asking_texts asking []) ++ 32 ∷ may)
-words_are last asking may =
-    ap spaced (last_first last (asking_texts asking (may ∷ []))) ∙ (spaced_more (last_texts last []) (asking_texts asking (may ∷ []))
-    ∙ ap (λ (x : List ℕ). spaced (last_texts last []) ++ x) (ap spaced (asking_first asking (may ∷ [])) ∙ (spaced_more (asking_texts asking []) (may ∷ [])
-    ∙ ap (λ (x : List ℕ). spaced (asking_texts asking []) ++ 32 ∷ x) (append-nil may))))
+words_are : (last asking : Option KeyUse) (may : List ℕ) (peers : List (List ℕ)) → spaced (last_texts last (asking_texts asking (may ∷ peers))) ≡ spaced (last_texts last []) ++ (spaced (asking_texts asking []) ++ 32 ∷ (may ++ spaced peers))
+words_are last asking may peers =
+    ap spaced (last_first last (asking_texts asking (may ∷ peers))) ∙ (spaced_more (last_texts last []) (asking_texts asking (may ∷ peers))
+    ∙ ap (λ (x : List ℕ). spaced (last_texts last []) ++ x) (ap spaced (asking_first asking (may ∷ peers)) ∙ spaced_more (asking_texts asking []) (may ∷ peers)))
 
--- who used a key last, who asks for it, and whether it may go
-pub state_line : (out one two three four : List ℕ) (last asking : Option KeyUse) (may : List ℕ) → one ≡ out ++ spaced (last_texts last []) → two ≡ one ++ spaced (asking_texts asking []) → three ≡ two ++ 32 ∷ may → four ≡ three ++ 10 ∷ [] →
-    four ≡ out ++ (spaced (last_texts last (asking_texts asking (may ∷ []))) ++ 10 ∷ [])
-state_line out one two three four last asking may a b c d =
+-- who used a key last, who asks for it, whether it may go, and of whom that is known
+pub state_line : (out one two three four five : List ℕ) (last asking : Option KeyUse) (may : List ℕ) (peers : List (List ℕ)) → one ≡ out ++ spaced (last_texts last []) → two ≡ one ++ spaced (asking_texts asking []) → three ≡ two ++ 32 ∷ may
+    → four ≡ three ++ spaced peers → five ≡ four ++ 10 ∷ [] → five ≡ out ++ (spaced (last_texts last (asking_texts asking (may ∷ peers))) ++ 10 ∷ [])
+state_line out one two three four five last asking may peers a b c d e =
     let l = spaced (last_texts last []) in
     let k = spaced (asking_texts asking []) in
     let m : List ℕ = 32 ∷ may in
-    let three_is : three ≡ out ++ (l ++ (k ++ m)) = c ∙ (ap (λ (x : List ℕ). x ++ m) (b ∙ ap (λ (x : List ℕ). x ++ k) a) ∙ (append_assoc (out ++ l) k m ∙ append_assoc out l (k ++ m))) in
-    d ∙ (ap (λ (x : List ℕ). x ++ 10 ∷ []) (three_is ∙ ap (λ (x : List ℕ). out ++ x) (sym (words_are last asking may))) ∙ append_assoc out (spaced (last_texts last (asking_texts asking (may ∷ [])))) (10 ∷ []))
+    let p = spaced peers in
+    let two_is : two ≡ out ++ (l ++ k) = b ∙ (ap (λ (x : List ℕ). x ++ k) a ∙ append_assoc out l k) in
+    let three_is : three ≡ out ++ ((l ++ k) ++ m) = c ∙ (ap (λ (x : List ℕ). x ++ m) two_is ∙ append_assoc out (l ++ k) m) in
+    let four_is : four ≡ out ++ (((l ++ k) ++ m) ++ p) = d ∙ (ap (λ (x : List ℕ). x ++ p) three_is ∙ append_assoc out ((l ++ k) ++ m) p) in
+    let words : ((l ++ k) ++ m) ++ p ≡ spaced (last_texts last (asking_texts asking (may ∷ peers))) =
+    append_assoc (l ++ k) m p ∙ (append_assoc l k (m ++ p) ∙ sym (words_are last asking may peers)) in
+    e ∙ (ap (λ (x : List ℕ). x ++ 10 ∷ []) (four_is ∙ ap (λ (x : List ℕ). out ++ x) words) ∙ append_assoc out (spaced (last_texts last (asking_texts asking (may ∷ peers)))) (10 ∷ []))
 
-goes_on : (uses : List KeyUse) (tables rest : List Table) (t : Table) (before after all : List ℕ) → tables ≡ t ∷ rest → before ++ keys_lines uses tables ≡ all → after ≡ before ++ key_lines uses t 1 t.rows → after ++ keys_lines uses rest ≡ all
-goes_on uses tables rest t before after all cut so_far more = rw more (append_assoc before (key_lines uses t 1 t.rows) (keys_lines uses rest) ∙ (rw cut at so_far))
+goes_on : (e : Evidence) (all_tables tables rest : List Table) (t : Table) (before after all : List ℕ) → tables ≡ t ∷ rest → before ++ flat_map (λ t. key_lines e all_tables t 1 t.rows) tables ≡ all
+    → after ≡ before ++ key_lines e all_tables t 1 t.rows → after ++ flat_map (λ t. key_lines e all_tables t 1 t.rows) rest ≡ all
+goes_on e all_tables tables rest t before after all cut so_far more =
+    rw more (append_assoc before (key_lines e all_tables t 1 t.rows) (flat_map (λ t. key_lines e all_tables t 1 t.rows) rest) ∙ (rw cut at so_far))
 
 -- the rows of one more node
-pub one_more_node : (uses : List KeyUse) (i : ℕ) (tables : List Table) (t : Table) (before after all : List ℕ) → i < length tables → ((d : Table) → t ≡ get_or tables (i + 1 - 1) d) → before ++ keys_lines uses (drop i tables) ≡ all
-    → after ≡ before ++ key_lines uses t 1 t.rows → after ++ keys_lines uses (drop (i + 1) tables) ≡ all
-one_more_node uses i tables t before after all low here so_far more =
+pub one_more_node : (e : Evidence) (i : ℕ) (tables : List Table) (t : Table) (before after all : List ℕ) → i < length tables → ((d : Table) → t ≡ get_or tables (i + 1 - 1) d)
+    → before ++ flat_map (λ t. key_lines e tables t 1 t.rows) (drop i tables) ≡ all → after ≡ before ++ key_lines e tables t 1 t.rows → after ++ flat_map (λ t. key_lines e tables t 1 t.rows) (drop (i + 1) tables) ≡ all
+one_more_node e i tables t before after all low here so_far more =
     let place : i + 1 - 1 ≡ i = omega arith in
     let at_place : t ≡ get_or tables i t = subst (λ (k : ℕ). t ≡ get_or tables k t) place (here t) in
     let cut : drop i tables ≡ t ∷ drop (i + 1) tables = rw (add-one i) (drop-cons tables i t low ∙ ap (λ x. x ∷ drop (suc i) tables) (sym at_place)) in
-    goes_on uses (drop i tables) (drop (i + 1) tables) t before after all cut so_far more
+    goes_on e tables (drop i tables) (drop (i + 1) tables) t before after all cut so_far more
 
 -- the whole text, one part behind another
 pub whole_text : (tables : List Table) (t : SessionTable) (out one two three four : List ℕ) (segments others : ℕ) → segments ≡ all_counted t.uses → others ≡ all_passed t.passed → one ≡ out ++ capture_line segments others t.uses
-    → two ≡ one ++ flat_map passed_line t.passed → three ≡ two ++ sessions_lines t.uses t.sessions → four ≡ three ++ keys_lines t.uses tables → four ≡ out ++ sessions_text tables t
+    → two ≡ one ++ flat_map passed_line t.passed → three ≡ two ++ sessions_lines t.uses t.sessions → four ≡ three ++ keys_lines (evidence_of t) tables → four ≡ out ++ sessions_text tables t
 unfolding sessions_text
 whole_text tables t out one two three four segments others m n a b c d =
     let l = capture_line (all_counted t.uses) (all_passed t.passed) t.uses in
     let p = flat_map passed_line t.passed in
     let s = sessions_lines t.uses t.sessions in
-    let k = keys_lines t.uses tables in
+    let k = keys_lines (evidence_of t) tables in
     let first : one ≡ out ++ l = rw (m, n) at a in
     let third : three ≡ out ++ (l ++ (p ++ s)) = c ∙ (ap (λ (x : List ℕ). x ++ s) (b ∙ ap (λ (x : List ℕ). x ++ p) first) ∙ (append_assoc (out ++ l) p s ∙ append_assoc out l (p ++ s))) in
     d ∙ (ap (λ (x : List ℕ). x ++ k) third ∙ (append_assoc out (l ++ (p ++ s)) k ∙ ap (λ (x : List ℕ). out ++ x) (append_assoc l (p ++ s) k ∙ ap (λ (x : List ℕ). l ++ x) (append_assoc p s k))))
 
--- the line of a row, by what was found of it
-pub key_found : {E : Type 0} (result : Result (Unit {0}) E) (uses : List KeyUse) (t : Table) (n : ℕ) (r : Row) (last asking : Option KeyUse) (wanted : Bool) (out new : List ℕ)
-    → last ≡ last_of (carries_row t r) uses → asking ≡ find (asks_row_still uses t r) uses → wanted ≡ is_wanted uses t r → OnOk result (new ≡ out ++ found_line t n r last asking wanted)
-    → OnOk result (new ≡ out ++ key_line uses t n r)
-key_found (Ok done) uses t n r last asking wanted out new a b c h = h ∙ rw (a, b, c) refl
-key_found (Err e) uses t n r last asking wanted out new a b c h = tt
+-- the line of a row, by what was found of it, and what stands in the way behind it
+pub key_found : {E : Type 0} (result : Result (Unit {0}) E) (e : Evidence) (tables : List Table) (t : Table) (n : ℕ) (r : Row) (last asking : Option KeyUse) (may : MayGo) (out mid new : List ℕ)
+    → last ≡ last_of (carries_row t n r) e.uses → asking ≡ find (asks_still e t n r) e.live → may ≡ may_go e tables t n r → mid ≡ out ++ found_line t n r last asking may
+    → OnOk result (new ≡ mid ++ obstacle_lines e tables t n r) → OnOk result (new ≡ out ++ key_line e tables t n r)
+key_found (Ok done) e tables t n r last asking may out mid new a b c f h =
+    h ∙ (ap (λ (x : List ℕ). x ++ obstacle_lines e tables t n r) f ∙ (append_assoc out (found_line t n r last asking may) (obstacle_lines e tables t n r) ∙ rw (a, b, c) refl))
+key_found (Err x) e tables t n r last asking may out mid new a b c f h = tt

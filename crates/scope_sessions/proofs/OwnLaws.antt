@@ -1,20 +1,10 @@
--- What is told of a session by its own uses is what is told of it by all; and what is current.
+-- What is told of a session by its own uses is what is told of it by all.
 use Rattle.std.proofs.Common.{◌≡◌, ◌≢◌, ℕ, ◌+◌, ◌<◌, ◌&&◌, ◌||◌, ◌==◌, Bool, true, false, not, List, [], ◌∷◌, ◌++◌, length, get_or, drop, Option, Some, None, Result, Ok, Err, OnOk, refl, sym, ap, ◌∙◌, append_assoc, arith, zero, suc, if◌then◌else◌}
 use Rattle.std.specs.Prelude.{cond, filter, map, nat_lt}
 use Rattle.std.specs.List.{find, flat_map, list_any, AllByRecursion}
-use Rattle.std.proofs.lemmas.Bool.Decides.{nat_tests}
-use Rattle.book_segments.specs.Sockets.{same_socket}
-use Rattle.book_segments.proofs.Fields.{and_tells}
-use Rattle.book_segments.proofs.SocketLaws.{same_socket_is}
 use Rattle.book_sessions.specs.declared.uses.KeyUse.{KeyUse}
-use Rattle.book_sessions.specs.OutcomeTexts.{is_verified}
-use Rattle.book_sessions.specs.Sessions.{same_id}
-use Rattle.book_keys.specs.Rows.{Row, Table}
-use Rattle.book_sessions.specs.KeyLines.{asks_for_row, asks_row_still, carries_row, is_current, is_wanted, overtakes}
 use Rattle.book_sessions.specs.SessionTexts.{heading_line, is_of_session, lines_of_session, opens_session, use_line, use_line_in}
 use Rattle.book_sessions_json.specs.SessionJson.{heading_json, session_json, use_json}
-use Rattle.session_index.specs.Groups.{HaveOneSession}
-use Rattle.session_index.specs.Places.{number_between}
 
 -- ---- by those that pass a test
 
@@ -76,37 +66,6 @@ pub own_json : (n : ℕ) (uses : List KeyUse) → session_json (filter (is_of_se
 own_json n uses =
     ap (heading_json (filter (is_of_session n) uses) n) (find_own (is_of_session n) uses) ∙ own_heading n uses (find (is_of_session n) uses)
 
--- ---- what is current
-
-overtaken_by : (u v : KeyUse) → overtakes v u ≡ true → (v.source ≡ u.source) × (v.destination ≡ u.destination)
-overtaken_by u v e =
-    let halves = and_tells (same_socket v.source u.source && same_socket v.destination u.destination) ((is_verified v.outcome && not (same_id v.key_id u.key_id)) && nat_lt u.last v.last) e in
-    let sockets = and_tells (same_socket v.source u.source) (same_socket v.destination u.destination) halves.0 in
-    (same_socket_is v.source u.source sockets.0, same_socket_is v.destination u.destination sockets.1)
-
-module _ (uses : List KeyUse) (u : KeyUse) (known : number_between u.source u.destination uses ≡ Some u.session) where
-  apart : (v : KeyUse) → number_between v.source v.destination uses ≡ Some v.session → is_of_session u.session v ≡ false → overtakes v u ≡ false
-  apart v h e = at (overtakes v u) refl
-    where
-      at : (b : Bool) → overtakes v u ≡ b → b ≡ false
-      at false f = refl
-      at true f =
-          let s = overtaken_by u v f in
-          let same : number_between u.source u.destination uses ≡ Some v.session = rw (← s.0, ← s.1) h in
-          let number : v.session ≡ u.session = cc in
-          let told : (u.session == u.session) ≡ false = rw number at e in
-          let is : (u.session == u.session) ≡ true = grind (arith, nat_tests) in
-          absurd (cc)
-
-  all_apart : (us : List KeyUse) → AllByRecursion (λ (v : KeyUse). number_between v.source v.destination uses ≡ Some v.session) us
-      → AllByRecursion (λ (v : KeyUse). is_of_session u.session v ≡ false → overtakes v u ≡ false) us
-  all_apart [] h = tt
-  all_apart (v ∷ us) h = (apart v h.0, all_apart us h.1)
-
-  -- a use is current among those of its own session exactly where it is among all
-  pub own_current : HaveOneSession uses → is_current (filter (is_of_session u.session) uses) u ≡ is_current uses u
-  own_current one = ap not (any_own (is_of_session u.session) (λ (v : KeyUse). overtakes v u) uses (all_apart uses one))
-
 -- the lines and the object of a session, by what was put behind a text
 pub lines_on : {E : Type 0} (result : Result (Unit {0}) E) (new out : List ℕ) (own uses : List KeyUse) (n : ℕ) → own ≡ filter (is_of_session n) uses → OnOk result (new ≡ out ++ lines_of_session own n)
     → OnOk result (new ≡ out ++ lines_of_session uses n)
@@ -117,40 +76,3 @@ pub json_on : {E : Type 0} (result : Result (Unit {0}) E) (new out : List ℕ) (
     → OnOk result (new ≡ out ++ session_json uses n)
 json_on (Ok done) new out own uses n is h = h ∙ ap (λ (l : List ℕ). out ++ l) (ap (λ (us : List KeyUse). session_json us n) is ∙ own_json n uses)
 json_on (Err e) new out own uses n is h = tt
-
--- what holds of each use holds of the one at a place
-pub all_at : (P : KeyUse → Type 0) (us : List KeyUse) (i : ℕ) (u : KeyUse) → i < length us → u ≡ get_or us i u → AllByRecursion P us → P u
-all_at P [] i u low e h = absurd (omega arith)
-all_at P (v ∷ us) zero u low e h = rw e h.0
-all_at P (v ∷ us) (suc i) u low e h = all_at P us i u (omega arith) e h.1
-
--- ---- by those that are current
-
-module _ (C A : KeyUse → Bool) where
-  pub any_both : (us : List KeyUse) → list_any (λ (u : KeyUse). A u && C u) us ≡ list_any A (filter C us)
-  any_both [] = refl
-  any_both (u ∷ us) = at (C u) (A u) refl refl (any_both us)
-    where
-      at : (c a : Bool) → C u ≡ c → A u ≡ a → list_any (λ (u : KeyUse). A u && C u) us ≡ list_any A (filter C us)
-          → list_any (λ (u : KeyUse). A u && C u) (u ∷ us) ≡ list_any A (cond c (u ∷ filter C us) (filter C us))
-      at true true e f h = rw (e, f) refl
-      at true false e f h = rw (e, f) h
-      at false true e f h = rw (e, f) h
-      at false false e f h = rw (e, f) h
-
-  pub find_both : (us : List KeyUse) → find (λ (u : KeyUse). A u && C u) us ≡ find A (filter C us)
-  find_both [] = refl
-  find_both (u ∷ us) = at (C u) (A u) refl refl (find_both us)
-    where
-      at : (c a : Bool) → C u ≡ c → A u ≡ a → find (λ (u : KeyUse). A u && C u) us ≡ find A (filter C us)
-          → find (λ (u : KeyUse). A u && C u) (u ∷ us) ≡ find A (cond c (u ∷ filter C us) (filter C us))
-      at true true e f h = rw (e, f) refl
-      at true false e f h = rw (e, f) h
-      at false true e f h = rw (e, f) h
-      at false false e f h = rw (e, f) h
-
-pub wanted_by : (t : Table) (r : Row) (currents uses : List KeyUse) → currents ≡ filter (is_current uses) uses → (list_any (carries_row t r) currents || list_any (asks_for_row t r) currents) ≡ is_wanted uses t r
-wanted_by t r currents uses is = rw (is, any_both (is_current uses) (carries_row t r) uses, any_both (is_current uses) (asks_for_row t r) uses) refl
-
-pub asking_by : (t : Table) (r : Row) (currents uses : List KeyUse) → currents ≡ filter (is_current uses) uses → find (asks_for_row t r) currents ≡ find (asks_row_still uses t r) uses
-asking_by t r currents uses is = rw is (sym (find_both (is_current uses) (asks_for_row t r) uses))

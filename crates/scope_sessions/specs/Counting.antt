@@ -1,5 +1,5 @@
 -- What a packet counts (own).
-use Rattle.std.specs.Prelude.{◌≡◌, ℕ, Result, Ok}
+use Rattle.std.specs.Prelude.{◌≡◌, ℕ, List, Result, Ok}
 use Rattle.book_segments.specs.Segments.{Segment, Reading, Read}
 use Rattle.book_cmd_check.specs.Captures.{Stored}
 use Rattle.book_captures.specs.Captures.{CapturePacket}
@@ -10,14 +10,18 @@ use Rattle.book_sessions.specs.Listening.{Listening, Listened}
 use Rattle.book_sessions.specs.Sessions.{SessionTable, counted_by, seen_by, stored_of_packet}
 use Rattle.capture_listener.specs.Listeners.{Hearing, Knows}
 
+-- what was stored of this packet at this time
+abbrev pub stored_at : (packet time : ℕ) → List ℕ → Stored
+stored_at packet time bytes = record { number = packet; time = time; bytes = bytes }
+
 -- a segment was seen so, of which this comes
-abbrev pub IsSeen : (time : ℕ) → Segment → SeenSegment → Listened → Type 0
-IsSeen time d seen l = seen_by time (Read d) l.outcome ≡ Ok seen
+abbrev pub IsSeen : Stored → Segment → SeenSegment → Listened → Type 0
+IsSeen s d seen l = seen_by s (Read d) l ≡ Ok seen
 
 -- what was read was seen so, of which this comes, and the listener knows what is known then
-pub record IsHeard (time : ℕ) (bytes : Reading) (said : Result SeenSegment PassedOver)
+pub record IsHeard (s : Stored) (bytes : Reading) (said : Result SeenSegment PassedOver)
     (after : Hearing) (l : Listened) : Type 0 where
-  pub seen : said ≡ seen_by time bytes l.outcome
+  pub seen : said ≡ seen_by s bytes l
   pub knows : Knows after l.listening
 
 -- a packet of which this is judged was counted: whatever is counted behind it

@@ -19,9 +19,10 @@ span_members u = json_member (codes "segments") (decimal u.segments)
     ∷ json_member (codes "first") (time_json u.first)
     ∷ json_member (codes "last") (time_json u.last) ∷ []
 
--- of segments: what they ask for
+-- of segments: what they ask for, and the last packet
 abbrev pub asked_members : KeyUse → List (List ℕ)
-asked_members u = json_member (codes "asks") (id_json u.asked) ∷ []
+asked_members u = json_member (codes "asks") (id_json u.asked)
+    ∷ json_member (codes "packet") (decimal u.packet) ∷ []
 
 -- of a row: its node and its number
 abbrev pub node_members : Table → (number : ℕ) → List (List ℕ)

@@ -8,7 +8,7 @@ ghost use Rattle.book_cmd_check.specs.declared.given.GivenIsns.{GivenIsns};
 ghost use Rattle.capture_listener.specs.Listeners.{Knows};
 ghost use Rattle.capture_stream.specs.Reads.{new_reading};
 ghost use Rattle.scope_lines.specs.Writes.{found_in};
-ghost use Rattle.scope_sessions.specs.Counting.{CountsPacket, CountsStored};
+ghost use Rattle.scope_sessions.specs.Counting.{CountsPacket, CountsStored, stored_at};
 ghost use Rattle.scope_sessions.specs.Reading.{Counts, counted_with, series_behind, series_of};
 
 use crate::due::{TextHalt, counted_since, second_of, write_due};
@@ -57,14 +57,15 @@ fn count_stored<L: Ledger>(
     index: &mut SessionIndex,
     alloc: Global,
     steps: &mut Steps<L>,
+    packet: u64,
     time: u64,
     bytes: &[u8],
 ) -> Result<(), AllocError>
-    ensures counts { (k : Listening) (number : ℕ) → Knows listener.old k → OnOk result
-        (CountsStored listener.old.judging k listener.new index.old index.new (Ok (record { number = number; time = time; bytes = bytes.now }))) }
+    ensures counts { (k : Listening) → Knows listener.old k → OnOk result
+        (CountsStored listener.old.judging k listener.new index.old index.new (Ok (stored_at packet time bytes.now))) }
     ensures judging { listener.new.judging ≡ listener.old.judging }
 {
-    let seen = hear(listener, alloc, steps, time, bytes)?;
+    let seen = hear(listener, alloc, steps, packet, time, bytes)?;
     index.count(alloc, &seen)
 }
 
@@ -74,13 +75,14 @@ fn count_found<L: Ledger>(
     index: &mut SessionIndex,
     alloc: Global,
     steps: &mut Steps<L>,
+    packet: u64,
     time: Option<u64>,
     frame: &[u8],
     found: Result<FoundDatagram, Skipped>,
 ) -> Result<(), AllocError>
     requires { IfOk found (λ d. (d.first ≤ d.after) × (d.after ≤ length frame.now)) }
-    ensures counts { (k : Listening) (number : ℕ) → Knows listener.old k → OnOk result
-        (CountsStored listener.old.judging k listener.new index.old index.new (stored_by number time (found_in frame.now found))) }
+    ensures counts { (k : Listening) → Knows listener.old k → OnOk result
+        (CountsStored listener.old.judging k listener.new index.old index.new (stored_by packet time (found_in frame.now found))) }
     ensures judging { listener.new.judging ≡ listener.old.judging }
 {
     match found {
@@ -92,6 +94,7 @@ fn count_found<L: Ledger>(
                 index,
                 alloc,
                 steps,
+                packet,
                 time / NANOSECONDS,
                 judged(frame, datagram.first),
             ),
@@ -117,6 +120,7 @@ fn count_packet<L: Ledger>(
         index,
         alloc,
         steps,
+        reader.number(),
         reader.time(),
         reader.frame(),
         reader.datagram(),

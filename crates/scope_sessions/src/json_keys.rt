@@ -1,15 +1,15 @@
 //! The keys of a key file in JSON.
-ghost use Rattle.std.specs.Prelude.{◌≡◌, ◌++◌, ◌∷◌, [], ℕ, IfOk, List, OnOk, codes, decimal, false, filter, is_some, true};
-ghost use Rattle.book_sessions.specs.KeyLines.{is_current};
+ghost use Rattle.std.specs.Prelude.{◌≡◌, ◌++◌, ◌∷◌, [], ℕ, IfOk, List, OnOk, codes, decimal, false, true};
 ghost use Rattle.book_sessions_json.specs.Json.{json_items};
 ghost use Rattle.book_sessions_json.specs.SessionJson.{asked_for_json, key_json, keys_json, last_used_json, may_go_json, rows_json};
 ghost use Rattle.scope_sessions.specs.JsonParts.{id_members, node_members, state_members};
 
 use crate::json_values::{push_address_text, push_comma, push_name, push_string, push_time};
-use crate::last_use::{asking, is_wanted, last_carrying};
+use crate::users::{first_asking, last_carrying};
 use ao_base::push_decimal;
-use book_sessions::KeyUse;
+use book_sessions::{KeyUse, MayGo};
 use key_table::{Row, Table, Tables};
+use scope_retiring::{Evidence, may_go};
 use std::alloc::{AllocError, Global};
 
 #[tactic(auto, unfolding(book_sessions_json::specs::SessionJson::last_used_json))]
@@ -21,6 +21,8 @@ fn push_last(alloc: Global, out: &mut Vec<u8>, last: Option<KeyUse>) -> Result<(
         Some(last) => {
             push_name(out, b'{', b"at")?;
             push_time(alloc, out, last.last)?;
+            push_name(out, b',', b"packet")?;
+            push_decimal(out, last.packet)?;
             push_name(out, b',', b"session")?;
             push_decimal(out, last.session)?;
             push_name(out, b',', b"from")?;
@@ -48,15 +50,13 @@ fn push_asking(alloc: Global, out: &mut Vec<u8>, asking: Option<KeyUse>) -> Resu
     }
 }
 
-fn may_go_word(last: Option<KeyUse>, wanted: bool) -> &'static [u8]
-    ensures { result.now ≡ may_go_json (is_some last) wanted }
+fn may_go_word(may: MayGo) -> &'static [u8]
+    ensures { result.now ≡ may_go_json may }
 {
-    if wanted {
-        return b"false";
-    }
-    match last {
-        Some(_) => b"true",
-        None => b"null",
+    match may {
+        MayGo::Yes => b"true",
+        MayGo::No => b"false",
+        MayGo::Unknown => b"null",
     }
 }
 
@@ -103,19 +103,17 @@ fn push_state(
 fn push_key(
     alloc: Global,
     out: &mut Vec<u8>,
-    uses: &[KeyUse],
-    currents: &[KeyUse],
+    evidence: &Evidence,
+    tables: &Tables,
     table: &Table,
     number: u64,
     row: &Row,
 ) -> Result<(), AllocError>
-    requires { currents.now ≡ filter (is_current uses.now) uses.now }
-    ensures { OnOk result (out.new.items ≡ out.old.items ++ key_json uses.now table.now number row.now) }
+    ensures { OnOk result (out.new.items ≡ out.old.items ++ key_json evidence.now tables.now table.now number row.now) }
 {
-    let last = last_carrying(uses, table, row);
-    let wanted = is_wanted(currents, table, row);
-    let asked = asking(currents, table, row);
-    let may = may_go_word(last, wanted);
+    let last = last_carrying(evidence.uses(), table, number, row);
+    let asked = first_asking(evidence, table, number, row);
+    let may = may_go_word(may_go(evidence, tables, table, number, row));
     push_node(out, table, number)?;
     push_ids(out, row)?;
     push_state(alloc, out, last, asked, may)?;
@@ -128,40 +126,36 @@ fn push_rows(
     alloc: Global,
     out: &mut Vec<u8>,
     first: bool,
-    uses: &[KeyUse],
-    currents: &[KeyUse],
+    evidence: &Evidence,
+    tables: &Tables,
     table: &Table,
     rows: &[Row],
 ) -> Result<bool, AllocError>
-    requires { currents.now ≡ filter (is_current uses.now) uses.now }
     ensures { (others : List (List ℕ)) → IfOk result (λ still. out.new.items ++ json_items still others
-        ≡ out.old.items ++ json_items first (rows_json uses.now table.now 1 rows.now ++ others)) }
+        ≡ out.old.items ++ json_items first (rows_json evidence.now tables.now table.now 1 rows.now ++ others)) }
 {
     let mut still = first;
     for (i, row) in rows.iter().enumerate() {
         push_comma(out, still)?;
-        push_key(alloc, out, uses, currents, table, i as u64 + 1, row)?;
+        push_key(alloc, out, evidence, tables, table, i as u64 + 1, row)?;
         still = false;
     }
     Ok(still)
 }
 
-/// Puts the rows of all nodes behind `out`, a comma between each two, by the segments and those of them
-/// that are current.
+/// Puts the rows of all nodes behind `out`, a comma between each two.
 pub(crate) fn push_keys(
     alloc: Global,
     out: &mut Vec<u8>,
-    uses: &[KeyUse],
-    currents: &[KeyUse],
+    evidence: &Evidence,
     tables: &Tables,
 ) -> Result<(), AllocError>
-    requires { currents.now ≡ filter (is_current uses.now) uses.now }
-    ensures { OnOk result (out.new.items ≡ out.old.items ++ json_items true (keys_json uses.now tables.now)) }
+    ensures { OnOk result (out.new.items ≡ out.old.items ++ json_items true (keys_json evidence.now tables.now)) }
 {
     let mut first = true;
     for i in 0..tables.nodes() {
         let table = tables.node(i + 1);
-        let still = push_rows(alloc, out, first, uses, currents, table, table.entries())?;
+        let still = push_rows(alloc, out, first, evidence, tables, table, table.entries())?;
         first = still;
     }
     Ok(())

@@ -6,10 +6,11 @@ ghost use Rattle.book_sessions_json.specs.SessionJson.{first_json, last_json, pa
 
 use crate::json_values::{push_comma, push_name, push_string, push_time};
 use crate::passed_texts::push_passed;
-use crate::session_texts::{earliest_seen, latest_seen};
+use crate::session_texts::earliest_seen;
 use crate::table_text::{all_counted, all_passed};
 use ao_base::push_decimal;
 use book_sessions::{KeyUse, PassedCount, PassedOver};
+use scope_retiring::latest_seen;
 use session_index::SessionIndex;
 use std::alloc::{AllocError, Global};
 

@@ -75,12 +75,14 @@ fn push_span(alloc: Global, out: &mut Vec<u8>, one: &KeyUse) -> Result<(), Alloc
     push_time(alloc, out, one.last)
 }
 
-// Puts the last member of segments behind `out`: what they ask for.
+// Puts the last members of segments behind `out`: what they ask for, and the last packet.
 fn push_asked(out: &mut Vec<u8>, one: &KeyUse) -> Result<(), AllocError>
     ensures { OnOk result (out.new.items ≡ out.old.items ++ (json_items false (asked_members one.now) ++ 125 ∷ [])) }
 {
     push_name(out, b',', b"asks")?;
     push_id(out, one.asked)?;
+    push_name(out, b',', b"packet")?;
+    push_decimal(out, one.packet)?;
     out.push(b'}')?;
     Ok(())
 }

@@ -1,5 +1,6 @@
 //! The whole table in JSON.
 ghost use Rattle.std.specs.Prelude.{◌≡◌, ◌++◌, ◌∷◌, [], OnOk, codes, map};
+ghost use Rattle.book_sessions.specs.Retiring.{evidence_of};
 ghost use Rattle.book_sessions.specs.SessionTexts.{has_amiss};
 ghost use Rattle.book_sessions_json.specs.Json.{json_array, json_bool, json_member};
 ghost use Rattle.book_sessions_json.specs.SessionJson.{keys_json, numbers_to, packets_json, session_json, sessions_json};
@@ -8,9 +9,9 @@ use crate::json_keys::push_keys;
 use crate::json_packets::push_packets;
 use crate::json_sessions::push_sessions;
 use crate::json_values::{push_bool, push_name};
-use crate::last_use::currents;
 use crate::table_text::has_amiss;
 use key_table::Tables;
+use scope_retiring::Evidence;
 use session_index::SessionIndex;
 use std::alloc::{AllocError, Global};
 
@@ -36,12 +37,12 @@ fn push_all_keys(
     index: &SessionIndex,
     tables: &Tables,
 ) -> Result<(), AllocError>
-    ensures { OnOk result (out.new.items ≡ out.old.items ++ (44 ∷ json_member (codes "keys") (json_array (keys_json index.now.uses tables.now)))) }
+    ensures { OnOk result (out.new.items ≡ out.old.items ++ (44 ∷ json_member (codes "keys") (json_array (keys_json (evidence_of index.now) tables.now)))) }
 {
-    let currents = currents(alloc, index)?;
+    let evidence = Evidence::of(alloc, index)?;
     push_name(out, b',', b"keys")?;
     out.push(b'[')?;
-    push_keys(alloc, out, index.uses(), currents.as_slice(), tables)?;
+    push_keys(alloc, out, &evidence, tables)?;
     out.push(b']')?;
     Ok(())
 }

@@ -1,14 +1,17 @@
 //! The lines of the keys of a key file.
-ghost use Rattle.std.specs.Prelude.{◌≡◌, ◌++◌, ◌∷◌, [], OnOk, codes, decimal, filter};
-ghost use Rattle.std.specs.List.{flat_map};
+ghost use Rattle.std.specs.Prelude.{◌≡◌, ◌++◌, ◌∷◌, [], OnOk, codes, decimal};
+ghost use Rattle.std.specs.List.{list_any};
 ghost use Rattle.book_lines.specs.Texts.{spaced};
 ghost use Rattle.scope_sessions.specs.KeyRows.{found_line};
-ghost use Rattle.book_sessions.specs.KeyLines.{asking_texts, is_current, key_line, key_lines, keys_lines, last_texts, may_go_text};
+ghost use Rattle.book_sessions.specs.KeyLines.{asking_texts, is_any, key_line, key_lines, keys_lines, last_texts, may_go_text, seen_peers_text};
 
-use crate::last_use::{asking, is_wanted, last_carrying};
+use crate::obstacles::push_obstacles;
 use crate::session_texts::{push_host, push_time};
-use book_sessions::KeyUse;
+use crate::users::{first_asking, last_carrying};
+use book_base::Address;
+use book_sessions::{KeyUse, MayGo};
 use key_table::{Row, Table, Tables};
+use scope_retiring::{Evidence, may_go};
 use std::alloc::AllocError;
 use text_lines::{push_field, push_newline, push_number, push_text};
 
@@ -20,6 +23,7 @@ fn push_last(out: &mut Vec<u8>, last: Option<KeyUse>) -> Result<(), AllocError>
         Some(last) => {
             push_text(out, b"last used")?;
             push_time(out, last.last)?;
+            push_field(out, b"packet", last.packet)?;
             push_field(out, b"session", last.session)?;
             push_text(out, b"from")?;
             push_host(out, &last.source.address)
@@ -40,16 +44,35 @@ fn push_asking(out: &mut Vec<u8>, asking: Option<KeyUse>) -> Result<(), AllocErr
     }
 }
 
-fn may_go_word(used: bool, wanted: bool) -> &'static [u8]
-    ensures { result.now ≡ may_go_text used wanted }
+fn may_go_word(may: MayGo) -> &'static [u8]
+    ensures { result.now ≡ may_go_text may }
 {
-    if wanted {
-        return b"may go no";
+    match may {
+        MayGo::Yes => b"may go yes",
+        MayGo::No => b"may go no",
+        MayGo::Unknown => b"may go unknown",
     }
-    if used {
-        b"may go yes"
+}
+
+fn is_any(peer: &Option<Address>) -> bool
+    ensures { result ≡ is_any peer.now }
+{
+    peer.is_none()
+}
+
+fn has_any(row: &Row) -> bool
+    ensures { result ≡ list_any is_any row.now.peers }
+{
+    row.peers().iter().any(|peer| is_any(peer))
+}
+
+fn push_peers(out: &mut Vec<u8>, any: bool) -> Result<(), AllocError>
+    ensures { OnOk result (out.new.items ≡ out.old.items ++ spaced (seen_peers_text any)) }
+{
+    if any {
+        push_text(out, b"of the peers seen")
     } else {
-        b"may go unknown"
+        Ok(())
     }
 }
 
@@ -66,18 +89,21 @@ fn push_row(out: &mut Vec<u8>, table: &Table, number: u64, row: &Row) -> Result<
     push_field(out, b"recv-id", u64::from(row.recv_id()))
 }
 
-// Puts the end of the line of a row behind `out`: who used it last, who asks for it, whether it may go.
+// Puts the end of the line of a row behind `out`: who used it last, who asks for it, whether it may go, and
+// whether that holds of the peers that were seen.
 fn push_state(
     out: &mut Vec<u8>,
     last: Option<KeyUse>,
     asking: Option<KeyUse>,
     may: &[u8],
+    any: bool,
 ) -> Result<(), AllocError>
-    ensures { OnOk result (out.new.items ≡ out.old.items ++ (spaced (last_texts last (asking_texts asking (may.now ∷ []))) ++ 10 ∷ [])) }
+    ensures { OnOk result (out.new.items ≡ out.old.items ++ (spaced (last_texts last (asking_texts asking (may.now ∷ seen_peers_text any))) ++ 10 ∷ [])) }
 {
     push_last(out, last)?;
     push_asking(out, asking)?;
     push_text(out, may)?;
+    push_peers(out, any)?;
     push_newline(out)?;
     Ok(())
 }
@@ -90,62 +116,58 @@ fn push_found(
     row: &Row,
     last: Option<KeyUse>,
     asking: Option<KeyUse>,
-    wanted: bool,
+    may: MayGo,
 ) -> Result<(), AllocError>
-    ensures { OnOk result (out.new.items ≡ out.old.items ++ found_line table.now number row.now last asking wanted) }
+    ensures { OnOk result (out.new.items ≡ out.old.items ++ found_line table.now number row.now last asking may) }
 {
-    let may = may_go_word(last.is_some(), wanted);
     push_row(out, table, number, row)?;
-    push_state(out, last, asking, may)
+    push_state(out, last, asking, may_go_word(may), has_any(row))
 }
 
 fn push_key(
     out: &mut Vec<u8>,
-    uses: &[KeyUse],
-    currents: &[KeyUse],
+    evidence: &Evidence,
+    tables: &Tables,
     table: &Table,
     number: u64,
     row: &Row,
 ) -> Result<(), AllocError>
-    requires { currents.now ≡ filter (is_current uses.now) uses.now }
-    ensures { OnOk result (out.new.items ≡ out.old.items ++ key_line uses.now table.now number row.now) }
+    ensures { OnOk result (out.new.items ≡ out.old.items ++ key_line evidence.now tables.now table.now number row.now) }
 {
-    let last = last_carrying(uses, table, row);
-    let wanted = is_wanted(currents, table, row);
-    let asked = asking(currents, table, row);
-    push_found(out, table, number, row, last, asked, wanted)
+    let last = last_carrying(evidence.uses(), table, number, row);
+    let asked = first_asking(evidence, table, number, row);
+    let may = may_go(evidence, tables, table, number, row);
+    push_found(out, table, number, row, last, asked, may)?;
+    push_obstacles(out, evidence, tables, table, number, row)?;
+    Ok(())
 }
 
 fn push_rows(
     out: &mut Vec<u8>,
-    uses: &[KeyUse],
-    currents: &[KeyUse],
+    evidence: &Evidence,
+    tables: &Tables,
     table: &Table,
     rows: &[Row],
 ) -> Result<(), AllocError>
-    requires { currents.now ≡ filter (is_current uses.now) uses.now }
-    ensures { OnOk result (out.new.items ≡ out.old.items ++ key_lines uses.now table.now 1 rows.now) }
+    ensures { OnOk result (out.new.items ≡ out.old.items ++ key_lines evidence.now tables.now table.now 1 rows.now) }
 {
     for (i, row) in rows.iter().enumerate() {
-        push_key(out, uses, currents, table, i as u64 + 1, row)?;
+        push_key(out, evidence, tables, table, i as u64 + 1, row)?;
     }
     Ok(())
 }
 
-/// Puts the lines of the rows of all nodes behind `out`, by the segments and those of them that are
-/// current.
+/// Puts the lines of the rows of all nodes behind `out`.
 pub(crate) fn push_keys(
     out: &mut Vec<u8>,
-    uses: &[KeyUse],
-    currents: &[KeyUse],
+    evidence: &Evidence,
     tables: &Tables,
 ) -> Result<(), AllocError>
-    requires { currents.now ≡ filter (is_current uses.now) uses.now }
-    ensures { OnOk result (out.new.items ≡ out.old.items ++ keys_lines uses.now tables.now) }
+    ensures { OnOk result (out.new.items ≡ out.old.items ++ keys_lines evidence.now tables.now) }
 {
     for i in 0..tables.nodes() {
         let table = tables.node(i + 1);
-        push_rows(out, uses, currents, table, table.entries())?;
+        push_rows(out, evidence, tables, table, table.entries())?;
     }
     Ok(())
 }

@@ -13,11 +13,11 @@ mod json_sessions;
 mod json_table;
 mod json_values;
 mod key_texts;
-mod last_use;
+mod obstacles;
 mod passed_texts;
 mod session_texts;
 mod table_text;
-mod words;
+mod users;
 mod write;
 
 pub use book_lines::LineKind;

@@ -4,13 +4,13 @@ ghost use Rattle.std.specs.List.{find, flat_map, list_any};
 ghost use Rattle.book_lines.specs.Texts.{spaced};
 ghost use Rattle.book_scope_texts.specs.Addresses.{usual_address_text};
 ghost use Rattle.book_scope_texts.specs.Instants.{instant_text};
-ghost use Rattle.book_sessions.specs.SessionTexts.{capture_line, earliest_seen, heading_line, id_text, is_of_session, latest_seen, lines_of_session, opens_session, passed_line, seen_text, sessions_lines, span_texts, use_line, use_line_in};
+ghost use Rattle.book_sessions.specs.SessionTexts.{capture_line, earliest_seen, heading_line, id_text, is_of_session, lines_of_session, opens_session, passed_line, seen_text, sessions_lines, span_texts, use_line, use_line_in};
 
 use crate::passed_texts::push_passed;
-use crate::words::is_verified;
 use ao_base::push_decimal;
 use book_base::{Address, Socket};
 use book_sessions::{KeyUse, PassedCount};
+use scope_retiring::{is_verified, latest_seen};
 use scope_texts::{push_address, push_instant};
 use session_index::{SessionIndex, outcome_word};
 use std::alloc::{AllocError, Global};
@@ -58,16 +58,6 @@ pub(crate) fn earliest_seen(time: u64, uses: &[KeyUse]) -> u64
         earliest = earliest.min(one.first);
     }
     earliest
-}
-
-pub(crate) fn latest_seen(time: u64, uses: &[KeyUse]) -> u64
-    ensures { result ≡ latest_seen time uses.now }
-{
-    let mut latest = time;
-    for one in uses {
-        latest = latest.max(one.last);
-    }
-    latest
 }
 
 // Puts from when to when segments were seen behind `out`.
@@ -204,10 +194,11 @@ fn push_direction(out: &mut Vec<u8>, one: &KeyUse) -> Result<(), AllocError>
 }
 
 // Puts the end of the line of segments behind `out`: how many they are, when they were seen, what they
-// ask for.
+// ask for, and the last packet.
 fn push_numbers(out: &mut Vec<u8>, one: &KeyUse) -> Result<(), AllocError>
     ensures { OnOk result (out.new.items ≡ out.old.items ++ (spaced (decimal one.now.segments ∷ codes "first" ∷ instant_text one.now.first
-        ∷ codes "last" ∷ instant_text one.now.last ∷ codes "asks" ∷ id_text one.now.asked ∷ []) ++ 10 ∷ [])) }
+        ∷ codes "last" ∷ instant_text one.now.last ∷ codes "asks" ∷ id_text one.now.asked
+        ∷ codes "packet" ∷ decimal one.now.packet ∷ []) ++ 10 ∷ [])) }
 {
     push_number(out, one.segments)?;
     push_text(out, b"first")?;
@@ -216,6 +207,7 @@ fn push_numbers(out: &mut Vec<u8>, one: &KeyUse) -> Result<(), AllocError>
     push_time(out, one.last)?;
     push_text(out, b"asks")?;
     push_id(out, one.asked)?;
+    push_field(out, b"packet", one.packet)?;
     push_newline(out)
 }
 

@@ -2,16 +2,14 @@
 ghost use Rattle.std.specs.Prelude.{◌≡◌, ◌++◌, ◌||◌, not, OnOk, IfSome};
 ghost use Rattle.std.specs.List.{list_any};
 ghost use Rattle.book_sessions.specs.Counts.{all_counted, all_passed};
-ghost use Rattle.book_sessions.specs.OutcomeTexts.{is_doubtful, is_verified};
+ghost use Rattle.book_sessions.specs.OutcomeTexts.{is_verified};
 ghost use Rattle.book_sessions.specs.SessionTexts.{has_amiss, sessions_text};
 
 use crate::key_texts::push_keys;
-use crate::last_use::currents;
-use crate::passed_texts::is_doubtful;
 use crate::session_texts::{push_capture, push_counts, push_sessions};
-use crate::words::is_verified;
 use book_sessions::{KeyUse, PassedCount};
 use key_table::Tables;
+use scope_retiring::{Evidence, has_doubtful, is_verified};
 use session_index::SessionIndex;
 use std::alloc::{AllocError, Global};
 
@@ -43,12 +41,6 @@ fn has_unverified(uses: &[KeyUse]) -> bool
     uses.iter().any(|one| !is_verified(one.outcome))
 }
 
-fn has_doubtful(passed: &[PassedCount]) -> bool
-    ensures { result ≡ list_any (λ c. is_doubtful c.why) passed.now }
-{
-    passed.iter().any(|count| is_doubtful(count.why))
-}
-
 /// Whether a segment isn't verified, or a packet that is passed over may be one.
 #[tactic(auto, unfolding(book_sessions::specs::SessionTexts::has_amiss))]
 pub(crate) fn has_amiss(index: &SessionIndex) -> bool
@@ -70,10 +62,10 @@ pub(crate) fn push_table(
     let uses = index.uses();
     let segments = all_counted(uses).ok_or(AllocError)?;
     let others = all_passed(index.passed()).ok_or(AllocError)?;
-    let currents = currents(alloc, index)?;
+    let evidence = Evidence::of(alloc, index)?;
     push_capture(out, segments, others, uses)?;
     push_counts(out, index.passed())?;
     push_sessions(alloc, out, index)?;
-    push_keys(out, uses, currents.as_slice(), tables)?;
+    push_keys(out, &evidence, tables)?;
     Ok(())
 }

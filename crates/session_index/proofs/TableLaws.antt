@@ -5,37 +5,38 @@ use Rattle.book_base.specs.declared.address.Pair.{Pair}
 use Rattle.book_sessions.specs.declared.uses.KeyUse.{KeyUse}
 use Rattle.book_sessions.specs.declared.uses.PassedCount.{PassedCount}
 use Rattle.book_sessions.specs.declared.uses.SeenSegment.{SeenSegment}
-use Rattle.book_sessions.specs.Sessions.{SessionTable, and_segment, session_of}
+use Rattle.book_sessions.specs.declared.uses.Signs.{Signs}
+use Rattle.book_sessions.specs.Sessions.{SessionTable, and_segment, session_of, signs_at, signs_of}
 use Rattle.book_sessions.specs.SessionTexts.{is_of_session}
-use Rattle.session_index.specs.Groups.{CountsSegment, IsIndexed}
+use Rattle.session_index.specs.Groups.{CountsSegment, HaveOneSession, IsIndexed}
 use Rattle.session_index.specs.Places.{number_between, places_of, uses_at}
-use Rattle.session_index.proofs.KeepLaws.{other_number}
+use Rattle.session_index.proofs.KeepLaws.{other_number, reached_first}
 use Rattle.session_index.proofs.NumberLaws.{all_more}
 use Rattle.session_index.proofs.PlaceLaws.{picked, places_none}
 
 abbrev pub table : ℕ → List KeyUse → List PassedCount → SessionTable
 table n uses passed = record { sessions = n; uses = uses; passed = passed }
 
-module _ {E : Type 0} (n k : ℕ) (s : SeenSegment) (uses now : List KeyUse) (passed : List PassedCount) (groups : List (List ℕ)) (numbers : List (Pair × ℕ)) where
-  pub counted_known : (result : Result (Unit {0}) E) (m : ℕ) → OnOk result (CountsSegment n s uses now groups numbers) → m ≡ k → number_between s.source s.destination uses ≡ Some n
+module _ {E : Type 0} (n k : ℕ) (sg : Signs) (s : SeenSegment) (uses now : List KeyUse) (passed : List PassedCount) (groups : List (List ℕ)) (numbers : List (Pair × ℕ)) where
+  pub counted_known : (result : Result (Unit {0}) E) (m : ℕ) → OnOk result (CountsSegment n sg s uses now groups numbers) → m ≡ k → sg ≡ signs_of s uses → number_between s.source s.destination uses ≡ Some n
       → OnOk result (table m now passed ≡ and_segment (session_of s uses) s (table k uses passed))
-  counted_known (Ok done) m C size e =
+  counted_known (Ok done) m C size shown e =
       let known : session_of s uses ≡ Some n = e in
-      rw (size, C.uses, known) refl
-  counted_known (Err error) m C size e = tt
+      rw (size, C.uses, known, shown) refl
+  counted_known (Err error) m C size shown e = tt
 
-  pub kept_known : (result : Result (Unit {0}) E) (old : List (List ℕ)) → OnOk result (CountsSegment n s uses now groups numbers) → OnErr result ((now ≡ uses) × (groups ≡ old)) → IsIndexed uses old numbers
+  pub kept_known : (result : Result (Unit {0}) E) (old : List (List ℕ)) → OnOk result (CountsSegment n sg s uses now groups numbers) → OnErr result ((now ≡ uses) × (groups ≡ old)) → IsIndexed uses old numbers
       → IsIndexed now groups numbers
   kept_known (Ok done) old C same I = C.indexed
   kept_known (Err error) old C same I = rw (same.0, same.1) I
 
 pub counted_first : {E : Type 0} (k : ℕ) (s : SeenSegment) (uses now : List KeyUse) (passed : List PassedCount) (groups : List (List ℕ)) (numbers : List (Pair × ℕ)) (result : Result (Unit {0}) E) (m : ℕ)
-    → OnOk result (CountsSegment (k + 1) s uses now groups numbers) → OnOk result (m ≡ k + 1) → number_between s.source s.destination uses ≡ None
+    → HaveOneSession uses → OnOk result (CountsSegment (k + 1) (signs_at None s) s uses now groups numbers) → OnOk result (m ≡ k + 1) → number_between s.source s.destination uses ≡ None
     → OnOk result (table m now passed ≡ and_segment (session_of s uses) s (table k uses passed))
-counted_first k s uses now passed groups numbers (Ok done) m C size e =
+counted_first k s uses now passed groups numbers (Ok done) m one C size e =
     let none : session_of s uses ≡ None = e in
-    rw (size, C.uses, none) refl
-counted_first k s uses now passed groups numbers (Err error) m C size e = tt
+    rw (size, C.uses, none, reached_first uses s one e) refl
+counted_first k s uses now passed groups numbers (Err error) m one C size e = tt
 
 -- no session has this number
 pub none_outside : (uses : List KeyUse) (groups : List (List ℕ)) (numbers : List (Pair × ℕ)) → IsIndexed uses groups numbers → (n : ℕ) → (n < 1) ⊎ (length groups < n) → places_of n uses ≡ []

@@ -10,6 +10,7 @@ use Rattle.book_base.specs.declared.address.Pair.{Pair}
 use Rattle.book_base.specs.Orders.{by_pair, sorted_pair}
 use Rattle.book_sessions.specs.declared.uses.KeyUse.{KeyUse}
 use Rattle.book_sessions.specs.declared.uses.SeenSegment.{SeenSegment}
+use Rattle.book_sessions.specs.declared.uses.Signs.{Signs}
 use Rattle.book_sessions.specs.Sessions.{first_use, used_again, with_use}
 use Rattle.session_index.specs.Places.{places_of, number_between}
 
@@ -31,15 +32,15 @@ lists_of [] = []
 lists_of (v ∷ vs) = v.items ∷ lists_of vs
 
 -- one more of the segments at a place (own)
-abbrev pub CountsAgain : SeenSegment → (place : ℕ) → (before now : List KeyUse) → Type 0
-CountsAgain s place before now = (d : KeyUse) → now ≡ slice_set before place (used_again s (get_or before place d))
+abbrev pub CountsAgain : Signs → SeenSegment → (place : ℕ) → (before now : List KeyUse) → Type 0
+CountsAgain g s place before now = (d : KeyUse) → now ≡ slice_set before place (used_again g s (get_or before place d))
 
 -- the first of its kind, whose place is put among those of its session (own)
-pub record CountsNext (number : ℕ) (s : SeenSegment) (before now : List KeyUse) (old new : List ℕ) : Type 0 where
-  pub uses : now ≡ before ++ first_use number s ∷ []
+pub record CountsNext (number : ℕ) (g : Signs) (s : SeenSegment) (before now : List KeyUse) (old new : List ℕ) : Type 0 where
+  pub uses : now ≡ before ++ first_use number g s ∷ []
   pub places : new ≡ old ++ length before ∷ []
 
 -- a segment of the session of this number was counted, and the index is right (own)
-pub record CountsSegment (number : ℕ) (s : SeenSegment) (before now : List KeyUse) (groups : List (List ℕ)) (numbers : List (Pair × ℕ)) : Type 0 where
-  pub uses : now ≡ with_use number s before
+pub record CountsSegment (number : ℕ) (g : Signs) (s : SeenSegment) (before now : List KeyUse) (groups : List (List ℕ)) (numbers : List (Pair × ℕ)) : Type 0 where
+  pub uses : now ≡ with_use number g s before
   pub indexed : IsIndexed now groups numbers

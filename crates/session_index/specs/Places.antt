@@ -8,7 +8,7 @@ use Rattle.book_sessions.specs.declared.outcome.PassedOver.{PassedOver}
 use Rattle.book_sessions.specs.declared.uses.KeyUse.{KeyUse}
 use Rattle.book_sessions.specs.declared.uses.PassedCount.{PassedCount}
 use Rattle.book_sessions.specs.declared.uses.SeenSegment.{SeenSegment}
-use Rattle.book_sessions.specs.Sessions.{is_use_of, same_reason}
+use Rattle.book_sessions.specs.Sessions.{greater_of, is_flow_of, is_use_of, same_reason}
 use Rattle.book_sessions.specs.SessionTexts.{is_of_session}
 
 -- the places of those of the session of this number, where the first of these uses has place i (own)
@@ -53,3 +53,14 @@ uses_at uses (p ∷ ps) = and_found (slice_get uses p) (uses_at uses ps)
 abbrev pub place_of_reason : PassedOver → List PassedCount → ℕ
 place_of_reason why [] = 0
 place_of_reason why (c ∷ cs) = if same_reason why c.why then 0 else place_of_reason why cs + 1
+
+-- how far those at a place came, if they passed in the segment's connection and go its way, and the
+-- others (own)
+abbrev pub reached_with : SeenSegment → Option KeyUse → Option ℕ → Option ℕ
+reached_with s None others = others
+reached_with s (Some u) others = if is_flow_of s u then Some (greater_of u.reached others) else others
+
+-- how far the uses at these places came that passed in the segment's connection and go its way (own)
+abbrev pub reached_among : SeenSegment → List KeyUse → (places : List ℕ) → Option ℕ
+reached_among s uses [] = None
+reached_among s uses (p ∷ ps) = reached_with s (slice_get uses p) (reached_among s uses ps)

@@ -7,11 +7,13 @@ ghost use Rattle.book_base.specs.declared.address.Pair.{Pair as Ends};
 ghost use Rattle.book_base.specs.Orders.{by_pair, sorted_pair};
 ghost use Rattle.book_sessions.specs.declared.uses.KeyUse.{KeyUse as Use};
 ghost use Rattle.session_index.specs.Groups.{CountsAgain, CountsNext, CountsSegment, IsIndexed, lists_of};
-ghost use Rattle.session_index.specs.Places.{and_found, is_use_found, number_between, place_among, uses_at};
+ghost use Rattle.book_sessions.specs.Sessions.{signs_of};
+ghost use Rattle.session_index.specs.Places.{and_found, is_use_found, number_between, place_among, reached_among, reached_with, uses_at};
 
 use crate::segment::{first_use, is_use_of, used_again};
+use crate::signs::{greater_of, is_flow_of, signs_at};
 use book_base::Pair;
-use book_sessions::{KeyUse, SeenSegment};
+use book_sessions::{KeyUse, SeenSegment, Signs};
 use std::alloc::{AllocError, Global};
 use std::collections::BTreeMap;
 
@@ -33,17 +35,74 @@ fn place_among(segment: &SeenSegment, uses: &[KeyUse], places: &[usize]) -> Opti
     None
 }
 
+fn reached_with(segment: &SeenSegment, one: &KeyUse, others: Option<u64>) -> Option<u64>
+    ensures { result ≡ reached_with segment.now (Some one.now) others }
+{
+    if is_flow_of(segment, one) {
+        Some(greater_of(one.reached, others))
+    } else {
+        others
+    }
+}
+
+fn reached_at(
+    segment: &SeenSegment,
+    uses: &[KeyUse],
+    place: usize,
+    others: Option<u64>,
+) -> Option<u64>
+    ensures { result ≡ reached_with segment.now (slice_get uses.now place) others }
+{
+    match uses.get(place) {
+        None => others,
+        Some(one) => reached_with(segment, one, others),
+    }
+}
+
+// How far the uses at these places came that passed in the segment's connection and go its way.
+fn reached_among(segment: &SeenSegment, uses: &[KeyUse], places: &[usize]) -> Option<u64>
+    ensures { result ≡ reached_among segment.now uses.now places.now }
+{
+    let mut reached = None;
+    let mut left = places.len();
+    while left > 0 {
+        left -= 1;
+        reached = reached_at(segment, uses, places[left], reached);
+    }
+    reached
+}
+
+/// What a segment of the session of this number shows, behind those that were seen.
+pub(crate) fn signs_among(
+    uses: &[KeyUse],
+    groups: &Vec<Vec<usize>>,
+    number: usize,
+    segment: &SeenSegment,
+) -> Signs
+    requires least { 1 ≤ number }
+    requires most { number ≤ length groups.now.items }
+    ensures { (numbers : List (Ends × ℕ)) → IsIndexed uses.now (lists_of groups.now.items) numbers
+        → number_between segment.now.source segment.now.destination uses.now ≡ Some number
+        → result ≡ signs_of segment.now uses.now }
+{
+    signs_at(
+        reached_among(segment, uses, groups[number - 1].as_slice()),
+        segment,
+    )
+}
+
 // One more of the segments at this place. Where 2^64 - 1 are counted nothing has changed.
 fn count_again(
     uses: &mut Vec<KeyUse>,
     place: usize,
+    signs: Signs,
     segment: &SeenSegment,
 ) -> Result<(), AllocError>
     requires { place < length uses.old.items }
-    ensures counted { OnOk result (CountsAgain segment.now place uses.old.items uses.new.items) }
+    ensures counted { OnOk result (CountsAgain signs segment.now place uses.old.items uses.new.items) }
     ensures unchanged { OnErr result (uses.new.items ≡ uses.old.items) }
 {
-    let again = used_again(segment, &uses[place]).ok_or(AllocError)?;
+    let again = used_again(signs, segment, &uses[place]).ok_or(AllocError)?;
     uses[place] = again;
     Ok(())
 }
@@ -54,14 +113,15 @@ fn count_next(
     uses: &mut Vec<KeyUse>,
     places: &mut Vec<usize>,
     number: u64,
+    signs: Signs,
     segment: &SeenSegment,
 ) -> Result<(), AllocError>
-    ensures counted { OnOk result (CountsNext number segment.now uses.old.items uses.new.items places.old.items places.new.items) }
+    ensures counted { OnOk result (CountsNext number signs segment.now uses.old.items uses.new.items places.old.items places.new.items) }
     ensures unchanged { OnErr result ((uses.new.items ≡ uses.old.items) × (places.new.items ≡ places.old.items)) }
 {
     uses.reserve(1)?;
     places.push(uses.len())?;
-    uses.push_reserved(first_use(number, segment));
+    uses.push_reserved(first_use(number, signs, segment));
     Ok(())
 }
 
@@ -80,20 +140,21 @@ pub(crate) fn count_known(
     uses: &mut Vec<KeyUse>,
     groups: &mut Vec<Vec<usize>>,
     number: usize,
+    signs: Signs,
     segment: &SeenSegment,
 ) -> Result<(), AllocError>
     requires least { 1 ≤ number }
     requires most { number ≤ length groups.old.items }
     ensures counted { (numbers : List (Ends × ℕ)) → IsIndexed uses.old.items (lists_of groups.old.items) numbers
         → number_between segment.now.source segment.now.destination uses.old.items ≡ Some number
-        → OnOk result (CountsSegment number segment.now uses.old.items uses.new.items (lists_of groups.new.items) numbers) }
+        → OnOk result (CountsSegment number signs segment.now uses.old.items uses.new.items (lists_of groups.new.items) numbers) }
     ensures unchanged { OnErr result ((uses.new.items ≡ uses.old.items) × (lists_of groups.new.items ≡ lists_of groups.old.items)) }
     ensures size { length groups.new.items ≡ length groups.old.items }
 {
     let group = number - 1;
     match place_among(segment, uses.as_slice(), groups[group].as_slice()) {
-        Some(place) => count_again(uses, place, segment),
-        None => count_next(uses, &mut groups[group], number as u64, segment),
+        Some(place) => count_again(uses, place, signs, segment),
+        None => count_next(uses, &mut groups[group], number as u64, signs, segment),
     }
 }
 
@@ -103,11 +164,12 @@ pub(crate) fn count_first(
     uses: &mut Vec<KeyUse>,
     groups: &mut Vec<Vec<usize>>,
     numbers: &mut BTreeMap<Pair, usize>,
+    signs: Signs,
     segment: &SeenSegment,
 ) -> Result<(), AllocError>
     ensures counted { IsIndexed uses.old.items (lists_of groups.old.items) numbers.old.entries
         → number_between segment.now.source segment.now.destination uses.old.items ≡ None
-        → OnOk result (CountsSegment (length groups.old.items + 1) segment.now uses.old.items uses.new.items (lists_of groups.new.items) numbers.new.entries) }
+        → OnOk result (CountsSegment (length groups.old.items + 1) signs segment.now uses.old.items uses.new.items (lists_of groups.new.items) numbers.new.entries) }
     ensures size { OnOk result (length groups.new.items ≡ length groups.old.items + 1) }
     ensures unchanged { OnErr result ((uses.new.items ≡ uses.old.items) × ((groups.new.items ≡ groups.old.items) × (numbers.new.entries ≡ numbers.old.entries))) }
 {
@@ -118,7 +180,7 @@ pub(crate) fn count_first(
     let number = groups.len() + 1;
     numbers.insert(Pair::sorted(segment.source, segment.destination), number)?;
     groups.push_reserved(places);
-    uses.push_reserved(first_use(number as u64, segment));
+    uses.push_reserved(first_use(number as u64, signs, segment));
     Ok(())
 }
 

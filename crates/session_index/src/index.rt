@@ -5,8 +5,9 @@ ghost use Rattle.book_sessions.specs.SessionTexts.{is_of_session};
 ghost use Rattle.session_index.specs.Groups.{HaveOneSession};
 ghost use Rattle.session_index.specs.Places.{places_of};
 
-use crate::groups::{count_first, count_known, number_of, uses_at};
+use crate::groups::{count_first, count_known, number_of, signs_among, uses_at};
 use crate::passed::count_passed;
+use crate::signs::signs_at;
 use book_base::Pair;
 use book_sessions::{KeyUse, PassedCount, PassedOver, SeenSegment};
 use std::alloc::{AllocError, Global};
@@ -102,12 +103,16 @@ impl SessionIndex {
         ensures unchanged { OnErr result (self.new ≡ self.old) }
     {
         match number_of(&self.numbers, segment) {
-            Some(number) => count_known(&mut self.uses, &mut self.groups, number, segment),
+            Some(number) => {
+                let signs = signs_among(self.uses.as_slice(), &self.groups, number, segment);
+                count_known(&mut self.uses, &mut self.groups, number, signs, segment)
+            }
             None => count_first(
                 alloc,
                 &mut self.uses,
                 &mut self.groups,
                 &mut self.numbers,
+                signs_at(None, segment),
                 segment,
             ),
         }

@@ -6,6 +6,7 @@ mod groups;
 mod index;
 mod passed;
 mod segment;
+mod signs;
 mod words;
 
 pub use index::SessionIndex;

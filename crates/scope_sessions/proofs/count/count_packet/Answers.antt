@@ -6,4 +6,4 @@ count_found-requires g c = found_within c.args.reader.now.packet c.frame.result.
 
 pub returns-clause-counts : goal.returns-clause-counts
 returns-clause-counts g c = λ held p is stands.
-    counts_on c.count_found.result _ held _ _ _ c.args.reader.now.packet p c.time.result c.frame.result.now c.datagram.result is c.time.ensures c.frame.ensures c.datagram.ensures.exact (c.count_found.ensures.counts held p.number stands)
+    counts_on c.count_found.result _ held _ _ _ c.args.reader.now.packet p c.number.result c.time.result c.frame.result.now c.datagram.result is c.number.ensures c.time.ensures c.frame.ensures c.datagram.ensures.exact (c.count_found.ensures.counts held stands)

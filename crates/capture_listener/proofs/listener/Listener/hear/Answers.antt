@@ -43,7 +43,9 @@ returns-then-not-is_unknown-clause-heard g c = λ k K0.
     let O : KeepsOpenings c.note_opening.new.openings.isns.entries (seen_to_open (record { tables = c.self.inside.tables; laps = c.self.inside.laps }) k c.args.time c.args.datagram.now) =
     c.in_ok-note_opening.ensures.keeps (hear_over (record { tables = c.self.inside.tables; laps = c.self.inside.laps }) k.held c.args.time c.args.datagram.now).saying k.openings H.says K.openings in
     let known = sym c.is_unknown.ensures ∙ c.if-not-is_unknown.true in
-    rw (c.by_line.ensures, ← c.self.view_is) (listens_once _ (record { tables = c.self.inside.tables; laps = c.self.inside.laps }) k c.args.time c.args.datagram.now c.in_ok-line.line H known G O)
+    let h = hear_over (record { tables = c.self.inside.tables; laps = c.self.inside.laps }) k.held c.args.time c.args.datagram.now in
+    rw (c.by_line.ensures, ← c.self.view_is) (listens_once _ (record { tables = c.self.inside.tables; laps = c.self.inside.laps }) k c.args.time c.args.datagram.now c.in_ok-line.line c.seen_pass.result H known G O
+    (c.seen_pass.ensures h.saying h.connections H.says H.stands))
 
 pub returns-clause-heard : goal.returns-clause-heard
 returns-clause-heard g c = λ k K0.

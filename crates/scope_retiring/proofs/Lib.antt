@@ -1,0 +1,3 @@
+pub mod AtPlaceLaws
+pub mod LeftLaws
+pub mod OwnUses
