@@ -12,8 +12,9 @@ use Rattle.book_sessions.specs.declared.retiring.MayGo.{MayGo}
 use Rattle.book_sessions.specs.declared.retiring.MayGo.TheVariants as go
 use Rattle.book_sessions.specs.declared.uses.KeyUse.{KeyUse}
 use Rattle.book_sessions.specs.OutcomeTexts.{is_verified}
-use Rattle.book_sessions.specs.Retiring.{Evidence, all_without, asks_for_row, carries_row, goes_from}
-use Rattle.book_sessions.specs.Retiring.{goes_without, does_without, is_at_row, leaves_use, may_go}
+use Rattle.book_sessions.specs.Retiring.{Evidence, all_without, asks_for_row, carries_row}
+use Rattle.book_sessions.specs.Retiring.{goes_from, goes_without, does_without}
+use Rattle.book_sessions.specs.Retiring.{is_at_row, leaves_use, may_go}
 use Rattle.book_sessions.specs.Retiring.{sent_by, sent_to, wants_row}
 
 -- of these and others, if there are some, those with the later packet (own)

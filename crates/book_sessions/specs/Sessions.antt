@@ -191,7 +191,8 @@ goes_past n bits p = not bits.syn && (nat_lt p.first p.after && nat_lt n p.after
 abbrev pub resets_at : (reached : ℕ) → SeenBits → SeenPass → Bool
 resets_at n bits p = bits.rst && (p.first == n)
 
--- what holds of the numbers of a segment that passed, and of how far those in front of it came (own)
+-- what holds of the numbers of a segment that passed, and of how far those in front of it came
+-- (own)
 abbrev pub if_passed : (ℕ → SeenPass → Bool) → Option ℕ → Option SeenPass → Bool
 if_passed holds (Some n) (Some p) = holds n p
 if_passed holds reached pass = false

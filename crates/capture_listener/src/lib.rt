@@ -14,7 +14,6 @@ mod outcomes;
 mod passes;
 
 pub use book_cmd_check::GivenIsns;
-pub use book_sessions::SegmentOutcome;
 pub use ids::key_ids;
 pub use listener::Listener;
 pub use outcomes::HeardSegment;

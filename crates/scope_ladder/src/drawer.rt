@@ -39,12 +39,7 @@ pub(crate) struct Drawer {
     pub(crate) kept: Vec<SessionRung>,
 }
 
-fn session_rung(
-    packet: u64,
-    time: u64,
-    datagram: &Datagram<'_>,
-    heard: HeardSegment,
-) -> SessionRung
+fn session_rung(packet: u64, time: u64, datagram: &Datagram<'_>, heard: HeardSegment) -> SessionRung
     ensures { result ≡ session_rung packet time datagram.now heard.outcome heard.pass }
 {
     SessionRung {

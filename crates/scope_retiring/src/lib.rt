@@ -18,7 +18,7 @@ pub use evidence::Evidence;
 pub use left::leaves_use;
 pub use peers::is_of_peer;
 pub use retiring::may_go;
-pub use rows_of::{asks_for_row, carries_row, is_at_row, sent_by, sent_to};
+pub use rows_of::{asks_for_row, carries_row, is_at_row};
 pub use seen::{has_doubtful, is_verified, latest_seen};
 pub use wanting::goes_from;
 pub use without::{all_without, goes_without, returns_without};

@@ -31,14 +31,14 @@ fn is_for(table: &Table, row: &Row, pair: &Pair) -> bool
 }
 
 /// Whether the node sent these, and the row is for them.
-pub fn sent_by(table: &Table, row: &Row, one: &KeyUse) -> bool
+pub(crate) fn sent_by(table: &Table, row: &Row, one: &KeyUse) -> bool
     ensures { result ≡ sent_by table.now row.now one.now }
 {
     is_for(table, row, &between(one.source, one.destination))
 }
 
 /// Whether these were sent to the node, and the row is for them.
-pub fn sent_to(table: &Table, row: &Row, one: &KeyUse) -> bool
+pub(crate) fn sent_to(table: &Table, row: &Row, one: &KeyUse) -> bool
     ensures { result ≡ sent_to table.now row.now one.now }
 {
     is_for(table, row, &between(one.destination, one.source))
