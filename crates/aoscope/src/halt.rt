@@ -18,6 +18,10 @@ pub(crate) enum Halt {
     IsNo(&'static str, &'static str),
     /// No session of the capture has this number; how many there are.
     NoSession(u64, u64),
+    /// The key file has no node.
+    NoNode,
+    /// The input names no connection.
+    NoConnection,
     Keys(TableFault),
     KeysTooLong,
     /// This line of the initial sequence numbers is faulty, and the kind of its first faulty word.
@@ -90,6 +94,8 @@ impl From<JudgingHalt> for Halt {
 fn status(halt: &Halt) -> u8 {
     match halt {
         Halt::NoSession(_, _) => 1,
+        Halt::NoNode => 1,
+        Halt::NoConnection => 1,
         Halt::Usage(_) => 2,
         Halt::IsNo(_, _) => 2,
         Halt::Keys(TableFault::Memory) => 7,
@@ -154,6 +160,8 @@ fn push_halt(alloc: Global, line: &mut Vec<u8>, halt: &Halt) -> Result<(), Alloc
         Halt::Usage(text) => push_usage(line, text),
         Halt::IsNo(name, wanted) => push_is_no(line, name, wanted),
         Halt::NoSession(number, many) => push_no_session(line, *number, *many),
+        Halt::NoNode => line.extend_from_slice(b"no node: the key file names none\n"),
+        Halt::NoConnection => line.extend_from_slice(b"no connection: the input names none\n"),
         Halt::Keys(TableFault::Memory) => line.extend_from_slice(b"memory\n"),
         Halt::Keys(fault) => push_key_fault(line, *fault),
         Halt::KeysTooLong => line.extend_from_slice(b"keys: too long\n"),

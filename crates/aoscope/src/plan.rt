@@ -5,7 +5,9 @@ use crate::inputs::{duration, input, keys_at, required, write};
 use book_cmd_keys::Plan;
 use book_draw_plan::PlanForm;
 use clap::{ArgMatches, Command};
-use scope_plan::{answer_plan, read_key_file};
+use command_report::Report;
+use key_table::LATEST;
+use scope_plan::{KeyFile, answer_plan, read_key_file};
 use scope_texts::read_instant;
 use std::alloc::{AllocError, Global};
 
@@ -32,7 +34,8 @@ in a colour for each KeyID, filled where it sends and white where it accepts. Be
 column that has a !. Each bar has a title that says from when to when its row may do so, and each box one that says \
 when it is.
 
-Status 0: all plans are aligned; 1: one isn't, or no node has an address; 3: keys; the others as above.
+Status 0: all plans are aligned; 1: one isn't, or no node has an address, or there is no connection or no node; 2: usage, \
+also where FROM is after TO; 3: keys; the others as above.
 
     aoscope plan KEYS 60 60 2026-12-01T00:00:00Z 2027-02-01T00:00:00Z < CONNECTIONS
     aoscope plan --draw --svg KEYS 60 60 2026-12-01T00:00:00Z 2027-02-01T00:00:00Z < CONNECTIONS > PICTURE.svg";
@@ -59,14 +62,24 @@ fn instant(name: &'static str, text: &str) -> Result<u64, Halt> {
     read_instant(text.as_bytes()).ok_or(Halt::IsNo(name, "time"))
 }
 
-/// By how much clocks may be behind and ahead, and between which times the plan is looked at.
+/// By how much clocks may be behind and ahead, and between which times the plan is looked at: FROM isn't after TO,
+/// and LEAD and LAG are no longer than the last time of a key file, as `aotcp lint` has it.
 fn plan_of(matches: &ArgMatches<'_>) -> Result<Plan, Halt> {
-    Ok(Plan {
+    let plan = Plan {
         lead: duration("LEAD", required(matches, "LEAD")?)?,
         lag: duration("LAG", required(matches, "LAG")?)?,
         from: instant("FROM", required(matches, "FROM")?)?,
         to: instant("TO", required(matches, "TO")?)?,
-    })
+    };
+    if plan.lead > LATEST {
+        Err(Halt::Usage("LEAD is more than 253402300799 seconds"))
+    } else if plan.lag > LATEST {
+        Err(Halt::Usage("LAG is more than 253402300799 seconds"))
+    } else if plan.from > plan.to {
+        Err(Halt::Usage("FROM is after TO"))
+    } else {
+        Ok(plan)
+    }
 }
 
 fn form_of(matches: &ArgMatches<'_>) -> PlanForm {
@@ -74,6 +87,27 @@ fn form_of(matches: &ArgMatches<'_>) -> PlanForm {
         (false, _) => PlanForm::Lines,
         (true, false) => PlanForm::Bars,
         (true, true) => PlanForm::Picture,
+    }
+}
+
+/// What is said of the connections of an input, of which there is one, by a key file that has a node.
+fn report_on(
+    alloc: Global,
+    form: PlanForm,
+    keys: &KeyFile,
+    plan: Plan,
+    input: &[u8],
+) -> Result<Report, Halt> {
+    if keys.tables.nodes() == 0 {
+        return Err(Halt::NoNode);
+    }
+    let lines = answer_plan(alloc, PlanForm::Lines, keys, plan, input)?;
+    if lines.text.as_slice().is_empty() {
+        return Err(Halt::NoConnection);
+    }
+    match form {
+        PlanForm::Lines => Ok(lines),
+        form => Ok(answer_plan(alloc, form, keys, plan, input)?),
     }
 }
 
@@ -86,7 +120,7 @@ fn judge(rt: &HostRuntime, matches: &ArgMatches<'_>) -> Result<bool, Halt> {
     let form = form_of(matches);
     write(
         rt,
-        answer_plan(rt.alloc(), form, &keys, plan, input.as_slice())?,
+        report_on(rt.alloc(), form, &keys, plan, input.as_slice())?,
     )
 }
 
