@@ -117,7 +117,8 @@ enum aotcp_answer {
     AOTCP_ANSWER_FOREIGN,    /* not of this connection; a stack doesn't answer so */
     AOTCP_ANSWER_CHECKSUM,   /* a wrong TCP checksum */
     AOTCP_ANSWER_CLOSED,     /* the end is closed */
-    AOTCP_ANSWER_REFUSED,    /* refused by TCP-AO: reason is an enum aotcp_verdict */
+    AOTCP_ANSWER_REFUSED,    /* refused by TCP-AO: reason is an enum aotcp_verdict. Without a pair (all zero) it was a
+                                SYN for a pair that isn't held */
     AOTCP_ANSWER_UNEXPECTED, /* not what the handshake waits for */
     AOTCP_ANSWER_WINDOW,     /* outside the window */
     AOTCP_ANSWER_CHALLENGE,  /* a RST or SYN in the window, but not where it could be meant (RFC 5961) */
@@ -127,7 +128,9 @@ enum aotcp_answer {
     AOTCP_ANSWER_RESET,      /* it reset the connection */
     AOTCP_ANSWER_TAKEN,      /* it was taken */
     AOTCP_ANSWER_NO_CONNECTION, /* no connection of its pair is held */
-    AOTCP_ANSWER_KNOCKS      /* a SYN for a pair that is free: nothing was heard; let it listen, hand it in again */
+    AOTCP_ANSWER_KNOCKS      /* a SYN for a pair that is free, and TCP-AO passes it: nothing was heard; let the pair
+                                listen, and hand it in again. One of an earlier connection passes too, whoever sends
+                                it again */
 };
 enum aotcp_datagram_fault {
     AOTCP_DATAGRAM_TRUNCATED = 1, AOTCP_DATAGRAM_VERSION, AOTCP_DATAGRAM_HEADER_LENGTH,
@@ -150,7 +153,7 @@ struct aotcp_heard {
     struct aotcp_pair pair; /* of the connection that answered, or that the SYN is for; else all zero */
     uint8_t answer;         /* an enum aotcp_answer */
     uint8_t reason;         /* for AOTCP_ANSWER_BAD and AOTCP_ANSWER_REFUSED; else 0 */
-    bool passed;            /* the check passed it */
+    bool passed;            /* the check of the connection that answered passed it */
     uint8_t row;            /* the row under which it passed, from 1; else 0 */
 };
 
@@ -179,7 +182,8 @@ struct aotcp_key_ids {
 };
 
 /* What was counted, of a connection since it began or of all at the node. Each number stays at 2^64 - 1 once it is there.
- * Of a segment that was refused the first reason counts. */
+ * Of a segment that was refused the first reason counts; of a SYN for a pair that isn't held it counts at the node
+ * alone. */
 struct aotcp_counters {
     uint64_t passed;        /* segments that passed TCP-AO's check, whatever came of them */
     uint64_t bad;           /* bytes that are no datagram; of the node alone, 0 of a connection */
@@ -196,12 +200,14 @@ struct aotcp_counters {
     uint64_t range;         /* their number is below 0, or they end past 2^63 */
     uint64_t bad_mac;       /* their MAC is wrong */
     uint64_t no_connection; /* segments whose pair isn't held; of the node alone */
-    uint64_t knocks;        /* SYNs that knocked; of the node alone */
+    uint64_t knocks;        /* SYNs that passed and knocked; of the node alone */
     uint64_t sent;          /* segments handed out for the first time */
     uint64_t sent_again;    /* segments that a timer handed out again */
     struct aotcp_key_ids ids_sent;  /* of the last segment handed out: the current key, and the one asked for; not of the
                                        node */
-    struct aotcp_key_ids ids_heard; /* of the last segment that passed: the peer's; not of the node */
+    struct aotcp_key_ids ids_heard; /* the peer's: of the last segment that passed and moved the connection on, by a new
+                                       acknowledgement or by what was expected; what was taken once and is sent again
+                                       doesn't count, nor does a SYN without ACK. Not of the node */
 };
 
 /* A row of a node's table (RFC 7210, section 2), but for its master key, of 1 to 255 bytes. No lifetime ends before it
@@ -246,7 +252,7 @@ int aotcp_input(struct aotcp_stack *stack, uint64_t now, const uint8_t *bytes, s
                 struct aotcp_heard *heard);
 
 /* The next IP datagram that is due at `now`: it stands in front of `out`, of `room` bytes, 1,500 at least, and has
- * *length bytes. AOTCP_NOTHING where none is due: call again at aotcp_deadline, or after another call. `length` is
+ * *length bytes, at most `room`. AOTCP_NOTHING where none is due: call again at aotcp_deadline, or after another call. `length` is
  * written with AOTCP_OK alone. AOTCP_NO_STACK, AOTCP_BAD_TIME, AOTCP_SMALL_ROOM. */
 int aotcp_output(struct aotcp_stack *stack, uint64_t now, uint8_t *out, size_t room, size_t *length);
 
@@ -277,8 +283,11 @@ int aotcp_abort(struct aotcp_stack *stack, const struct aotcp_pair *pair);
  * AOTCP_NO_CONNECTION. */
 int aotcp_state(struct aotcp_stack *stack, const struct aotcp_pair *pair, struct aotcp_state *state);
 
-/* Whether the connection has heard nothing of its peer at `now` for the user timeout of five minutes while it waits for
- * it (RFC 9293, section 3.9.1.1); false where the pair isn't held. Nothing is done of itself: abort, or wait on.
+/* Whether the connection has waited for its peer at `now` for the user timeout of five minutes, and nothing moved it on
+ * meanwhile: no new acknowledgement, and nothing that was expected (RFC 9293, section 3.9.1.1). It waits while something
+ * that it sent isn't acknowledged, or bytes wait for the peer's window; false where it doesn't, or the pair isn't held.
+ * What was taken once counts for nothing when it is sent again, whoever sends it; so a peer whose window stays closed is
+ * told as one that is gone. Nothing is done of itself: abort, or wait on.
  * AOTCP_NO_STACK, AOTCP_BAD_FAMILY. */
 int aotcp_is_overdue(struct aotcp_stack *stack, const struct aotcp_pair *pair, uint64_t now, bool *overdue);
 

@@ -130,6 +130,31 @@ static void check_rows(struct world *w) {
     CHECK(aotcp_withdraw(&w->stacks[CLIENT], 3) == AOTCP_OK && aotcp_withdraw(&w->stacks[CLIENT], 4) == AOTCP_NO_ROW);
 }
 
+/* A SYN for a pair that isn't held knocks where its MAC is right; else it is refused and counted by its cause, and nothing
+ * is held. */
+static void check_knock(void) {
+    struct world w;
+    struct way way = {0, 0, 0, 0, 0};
+    struct aotcp_heard heard;
+    struct aotcp_counters n;
+    uint8_t out[1500];
+    size_t length = 0;
+    world_open(&w, KEYS, START, 1, way);
+    CHECK(aotcp_remove(&w.stacks[SERVER], &w.pairs[SERVER]) == AOTCP_OK);
+    CHECK(aotcp_output(&w.stacks[CLIENT], START, out, sizeof out, &length) == AOTCP_OK && length <= sizeof out);
+    CHECK(aotcp_input(&w.stacks[SERVER], START, out, length, &heard) == AOTCP_OK && heard.answer == AOTCP_ANSWER_KNOCKS);
+    unsigned sum = (out[36] << 8 | out[37]) + 1u; /* a window of one byte less, and the checksum right again */
+    sum = (sum & 0xffff) + (sum >> 16);
+    out[35]--;
+    out[36] = (uint8_t)(sum >> 8);
+    out[37] = (uint8_t)sum;
+    CHECK(aotcp_input(&w.stacks[SERVER], START, out, length, &heard) == AOTCP_OK);
+    CHECK(heard.answer == AOTCP_ANSWER_REFUSED && heard.reason == AOTCP_VERDICT_BAD_MAC && heard.pair.family == 0);
+    CHECK(aotcp_node_counters(&w.stacks[SERVER], &n) == AOTCP_OK && n.knocks == 1 && n.bad_mac == 1 && n.passed == 0);
+    CHECK(aotcp_counters(&w.stacks[SERVER], &w.pairs[SERVER], &n) == AOTCP_NO_CONNECTION);
+    world_close(&w);
+}
+
 /* An end whose last acknowledgements were all lost until its peer was out of TIME-WAIT hears nothing more: it is told of
  * that after five minutes, and gives up. */
 static void give_up(struct world *w, int end) {
@@ -189,6 +214,7 @@ int main(int argc, char **argv) {
     if (argc > 1 && strcmp(argv[1], "--bench") == 0) return bench(argc > 2 ? strtoul(argv[2], NULL, 10) : 10);
     uint64_t seed = argc > 1 ? strtoull(argv[1], NULL, 10) : 1;
     uint64_t count = argc > 2 ? strtoull(argv[2], NULL, 10) : 1;
+    check_knock();
     for (uint64_t i = 0; i < count; i++) run(seed + i);
     return 0;
 }

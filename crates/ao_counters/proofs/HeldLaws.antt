@@ -14,7 +14,7 @@ use Rattle.book_cmd_node.specs.declared.node.NodeEvent.TheVariants as event
 use Rattle.book_cmd_node.specs.NodeRuns as runs
 use Rattle.book_cmd_node.specs.NodeRuns.{Called, Held, NodeOutcome, NodeState, NodeStep, after_call, arrived_at, called, ends_ticked, held_end, injected, made_called, most_ends, new_end, node_from, node_outcomes_from, node_step, on_held, on_other, on_pair, same_pair, take_called, with_end, without_end}
 use Rattle.book_counters.specs.declared.tally.Tally.{Tally}
-use Rattle.book_counters.specs.Counters.{StackCounts, act_counted, arrival_counted, call_counted, datagram_counted, event_counted, events_counted, no_tally, performed_counted, sending_counted, tallied, told_counted, with_tally}
+use Rattle.book_counters.specs.Counters.{StackCounts, act_counted, arrival_counted, call_counted, datagram_counted, event_counted, events_counted, is_moving, no_tally, performed_counted, sending_counted, tallied, told_counted, with_tally}
 use Rattle.book_counters.specs.KeyIds.{key_ids_heard, key_ids_made, key_ids_read, key_ids_sent}
 use Rattle.book_stack.specs.Calls as book
 use Rattle.book_stack.specs.Calls.{Call, CallAnswer, call}
@@ -114,15 +114,15 @@ ticked seconds m n K = record {
   once = λ q. once_ticked q seconds m.ends (K.once q);
 }
 
-module _ (rows : List Row) (m : NodeState) (n : StackCounts) (K : Keeps m n) where
-  reached : (d : Segment) (o : Option EndState) → held_end (pair_reached d) m.ends ≡ o → let step = arrived_at rows m (pair_reached d) (Read d) o in Keeps step.node (datagram_counted step.outcome (Read d) n)
+module _ (moved : Bool) (rows : List Row) (m : NodeState) (n : StackCounts) (K : Keeps m n) where
+  reached : (d : Segment) (o : Option EndState) → held_end (pair_reached d) m.ends ≡ o → let step = arrived_at rows m (pair_reached d) (Read d) o in Keeps step.node (datagram_counted moved step.outcome (Read d) n)
   reached d None is = record { held = K.held; once = K.once }
   reached d (Some s) is =
       let a = arrive rows (pair_reached d) m.clock s (Read d) in
-      written m n K (pair_reached d) s a.state (datagram_counted (runs.DatagramAnswered a.answer) (Read d) n) is
-      (λ q. some_changed (pair_reached d) q (tallied (arrival_counted a.answer) (key_ids_heard a.answer (key_ids_read (Read d)))) n)
+      written m n K (pair_reached d) s a.state (datagram_counted moved (runs.DatagramAnswered a.answer) (Read d) n) is
+      (λ q. some_changed (pair_reached d) q (tallied (arrival_counted a.answer) (key_ids_heard moved a.answer (key_ids_read (Read d)))) n)
 
-  came : (r : Reading) → let step = injected rows m r in Keeps step.node (datagram_counted step.outcome r n)
+  came : (r : Reading) → let step = injected rows m r in Keeps step.node (datagram_counted moved step.outcome r n)
   came (Unread fault) = record { held = K.held; once = K.once }
   came (Read d) = reached d (held_end (pair_reached d) m.ends) refl
 
@@ -155,23 +155,25 @@ module _ (rows : List Row) (m : NodeState) (n : StackCounts) (K : Keeps m n) whe
   pair_acts p a None is = other_acts p a is
   pair_acts p a (Some s) is = held_acts p s a is
 
-step_keeps : (rows : List Row) (e : NodeEvent) (m : NodeState) (n : StackCounts) → Keeps m n → let step = node_step most_ends rows m e in Keeps step.node (event_counted e step.outcome n)
-step_keeps rows (event.Clock seconds) m n K = ticked seconds m n K
-step_keeps rows (event.Inject bytes) m n K = came rows m n K (reading bytes)
-step_keeps rows (event.On p a) m n K = pair_acts rows m n K p a (held_end p m.ends) refl
+step_keeps : (moved : Bool) (rows : List Row) (e : NodeEvent) (m : NodeState) (n : StackCounts) → Keeps m n → let step = node_step most_ends rows m e in Keeps step.node (event_counted moved e step.outcome n)
+step_keeps moved rows (event.Clock seconds) m n K = ticked seconds m n K
+step_keeps moved rows (event.Inject bytes) m n K = came moved rows m n K (reading bytes)
+step_keeps moved rows (event.On p a) m n K = pair_acts moved rows m n K p a (held_end p m.ends) refl
 
-events_keep : (rows : List Row) (es : List NodeEvent) (m : NodeState) (n : StackCounts) → Keeps m n
-    → Keeps (node_from most_ends rows m es) (events_counted es (node_outcomes_from most_ends rows m es) n)
-events_keep rows [] m n K = K
-events_keep rows (e ∷ es) m n K =
+events_keep : (moved : Bool) (rows : List Row) (es : List NodeEvent) (m : NodeState) (n : StackCounts) → Keeps m n
+    → Keeps (node_from most_ends rows m es) (events_counted moved es (node_outcomes_from most_ends rows m es) n)
+events_keep moved rows [] m n K = K
+events_keep moved rows (e ∷ es) m n K =
     let step = node_step most_ends rows m e in
-    events_keep rows es step.node (event_counted e step.outcome n) (step_keeps rows e m n K)
+    events_keep moved rows es step.node (event_counted moved e step.outcome n) (step_keeps moved rows e m n K)
 
 -- ---- a call
 
 told_keeps : (a : CallAnswer) (m : NodeState) (n : StackCounts) → Keeps m n → Keeps m (told_counted a n)
 told_keeps (book.Told o) m n K = K
+told_keeps (book.Moves o) m n K = K
 told_keeps (book.Knocks q) m n K = record { held = K.held; once = K.once }
+told_keeps (book.Refuses why) m n K = record { held = K.held; once = K.once }
 told_keeps (book.Hands x) m n K = K
 told_keeps book.Rests m n K = K
 told_keeps (book.Adds x) m n K = K
@@ -184,8 +186,9 @@ pub call_held : (c : Call) (s : StackState) (n : StackCounts) → ((q : Pair) �
 call_held c s n held once q =
     let d = call c s in
     let T = call_steps c s in
+    let moved = is_moving d.answer in
     let before : Keeps s.node n = record { held = held; once = once } in
-    let after = events_keep s.rows d.events s.node n before in
-    let stood = subst (λ (m : NodeState). Keeps m (events_counted d.events (node_outcomes_from most_ends s.rows s.node d.events) n)) (sym T.node) after in
-    let told = subst (λ (os : List NodeOutcome). Keeps d.stack.node (events_counted d.events os n)) (sym T.told) stood in
-    (told_keeps d.answer d.stack.node (events_counted d.events d.outcomes n) told).held q
+    let after = events_keep moved s.rows d.events s.node n before in
+    let stood = subst (λ (m : NodeState). Keeps m (events_counted moved d.events (node_outcomes_from most_ends s.rows s.node d.events) n)) (sym T.node) after in
+    let told = subst (λ (os : List NodeOutcome). Keeps d.stack.node (events_counted moved d.events os n)) (sym T.told) stood in
+    (told_keeps d.answer d.stack.node (events_counted moved d.events d.outcomes n) told).held q

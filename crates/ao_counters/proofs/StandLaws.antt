@@ -1,6 +1,6 @@
 -- A stack that counts stands for what a call leaves.
 use Rattle.std.proofs.Common.{◌≡◌, ℕ, Bool, true, false, List, Option, Some, None, Result, Ok, Err, refl, sym, ap, subst, ◌∙◌}
-use Rattle.std.specs.Prelude.{is_some, option_map, take, if◌then◌else◌}
+use Rattle.std.specs.Prelude.{is_some, length, option_map, take, if◌then◌else◌}
 use Rattle.book_base.specs.declared.address.Pair.{Pair}
 use Rattle.book_segments.specs.declared.fault.DatagramFault.{DatagramFault}
 use Rattle.book_segments.specs.Segments.{Reading, Read, Bad as Unread, reading, spell}
@@ -9,6 +9,7 @@ use Rattle.book_keys.specs.declared.new_row.AddRefusal.TheVariants as refused
 use Rattle.book_keys.specs.declared.new_row.NewRow.{NewRow}
 use Rattle.book_endpoint.specs.declared.arrival.Arrival.TheVariants.{Bad}
 use Rattle.book_endpoint.specs.Emissions.{Emission}
+use Rattle.book_endpoint.specs.declared.verdict.Verdict.{Verdict}
 use Rattle.book_cmd_node.specs.declared.node.Act.{Act}
 use Rattle.book_cmd_node.specs.declared.node.Act.TheVariants as act
 use Rattle.book_cmd_node.specs.declared.node.NodeEvent.TheVariants as event
@@ -18,7 +19,7 @@ use Rattle.book_counters.specs.declared.counters.Counters.{Counters}
 use Rattle.book_counters.specs.declared.key_ids.KeyIds.{KeyIds}
 use Rattle.book_counters.specs.declared.key_ids.KeyIdsSeen.{KeyIdsSeen}
 use Rattle.book_counters.specs.declared.tally.Tally.{Tally}
-use Rattle.book_counters.specs.Counters.{StackCounts, arrival_counted, call_counted, counted_at, answer_counted, event_counted, knock_counted, no_tally, performed_counted, sending_counted, stray_counted, tallied, with_tally}
+use Rattle.book_counters.specs.Counters.{StackCounts, arrival_counted, call_counted, counted_at, answer_counted, event_counted, knock_counted, no_tally, performed_counted, refusal_counted, sending_counted, stray_counted, tallied, with_tally}
 use Rattle.book_counters.specs.KeyIds.{key_ids_heard, key_ids_made, key_ids_read, key_ids_sent}
 use Rattle.book_stack.specs.Calls as book
 use Rattle.book_stack.specs.Calls.{Add, At, Call, CallAnswer, Incoming, Input, Output, call}
@@ -27,13 +28,14 @@ use Rattle.law_node.proofs.Pairs.{same_pair_is, same_pair-refl}
 use Rattle.tcp_endpoint.specs.declared.arrival.Arrived.{Arrived}
 use Rattle.tcp_endpoint.specs.declared.send.GiveAnswer.{GiveAnswer}
 use Rattle.tcp_endpoint.specs.declared.send.GiveAnswer.TheVariants as given
+use Rattle.node_ends.specs.declared.answer.NodeArrival.{NodeArrival}
 use Rattle.node_ends.specs.declared.answer.NodeArrival.TheVariants as arrivals
 use Rattle.node_ends.specs.declared.answer.NodeRefusal.{NodeRefusal}
 use Rattle.node_ends.specs.declared.answer.NodeRefusal.TheVariants as refusals
 use Rattle.stack_ends.specs.declared.calls.Taken.{Taken}
 use Rattle.ao_stack.specs.Answers as below
-use Rattle.ao_stack.specs.Answers.{IsAdded, IsBegun, IsDone, IsGiven, IsHanded, IsHeard, IsTaken, Reaches}
-use Rattle.ao_stack.specs.Passed.{OptionIn}
+use Rattle.ao_stack.specs.Answers.{IsAdded, IsBegun, IsDone, IsGiven, IsHanded, IsHeard, IsTaken, IsTold, Reaches}
+use Rattle.ao_stack.specs.Passed.{OptionIn, TellsFound}
 use Rattle.ao_stack.specs.Stands as stack
 use Rattle.ao_stack.specs.Turns.{MadeLast, act_of}
 use Rattle.ao_stack.specs.declared.input.Heard.TheVariants as heard
@@ -41,11 +43,11 @@ use Rattle.ao_stack.specs.declared.outgoing.Outgoing.{Outgoing}
 use Rattle.book_link.specs.declared.event.Transmission.{Transmission}
 use Rattle.ao_counters.specs.declared.counted_stack.CountedStack.{CountedStack}
 use Rattle.ao_counters.specs.declared.counts.Happened.TheVariants as happened
-use Rattle.ao_counters.specs.Answers.{AddsAs, BeginsAs, Follows}
+use Rattle.ao_counters.specs.Answers.{AddsAs, BeginsAs, CountsTold, Follows}
 use Rattle.ao_counters.specs.Counts.{changed_by}
 use Rattle.ao_counters.specs.Stands.{Stands}
 use Rattle.ao_counters.specs.Tallies.{Becomes, Tallying, tally_at}
-use Rattle.ao_counters.proofs.CallLaws.{add_counts, at_counts, input_knocks, input_told}
+use Rattle.ao_counters.proofs.CallLaws.{add_counts, at_counts, input_knocks, input_refuses, input_told}
 use Rattle.ao_counters.specs.Passed.{ids_passed}
 use Rattle.ao_counters.proofs.HeldLaws.{call_held}
 use Rattle.ao_counters.proofs.PassedLaws.{heard_alike}
@@ -83,10 +85,12 @@ module _ (p : Pair) (a : Act) (s : StackState) (n : StackCounts) where
   taken_counts before after (Some taken) h = at_counts p a s n (runs.Delivered h.bytes taken.at_end) h.answer
 
 -- a datagram was handed out
-handed_some : (room : List ℕ) (size : ℕ) (a : CallAnswer) → IsHanded room (Some size) a → (x : Emission) × (a ≡ book.Hands x) × (take size room ≡ spell (handed x.segment))
+handed_some : (room : List ℕ) (size : ℕ) (a : CallAnswer) → IsHanded room (Some size) a → (x : Emission) × (a ≡ book.Hands x) × (take size room ≡ spell (handed x.segment)) × (size ≡ length (spell (handed x.segment)))
 handed_some room size (book.Told o) h = absurd h
+handed_some room size (book.Moves o) h = absurd h
 handed_some room size (book.Knocks q) h = absurd h
-handed_some room size (book.Hands x) h = (x, refl, h)
+handed_some room size (book.Refuses why) h = absurd h
+handed_some room size (book.Hands x) h = (x, refl, h.0, h.1)
 handed_some room size book.Rests h = absurd h
 handed_some room size (book.Adds x) h = absurd h
 handed_some room size book.Withdraws h = absurd h
@@ -95,7 +99,9 @@ handed_some room size book.NoSuchRow h = absurd h
 -- none was
 handed_none : (room : List ℕ) (a : CallAnswer) → IsHanded room None a → a ≡ book.Rests
 handed_none room (book.Told o) h = absurd h
+handed_none room (book.Moves o) h = absurd h
 handed_none room (book.Knocks q) h = absurd h
+handed_none room (book.Refuses why) h = absurd h
 handed_none room (book.Hands x) h = absurd h
 handed_none room book.Rests h = refl
 handed_none room (book.Adds x) h = absurd h
@@ -172,28 +178,36 @@ module _ (k after : CountedStack) (s : StackState) (n : StackCounts) (S : Stands
       → Follows after (Input coming) s n (IsHeard (reading coming.bytes) (heard.Knocks p))
   knocks_so coming p F node tallies = counts_as (Input coming) (IsHeard (reading coming.bytes) (heard.Knocks p)) _ (input_knocks coming s n p F.answer) F.answer (node_counts (call (Input coming) s).stack knock_counted F.stands node tallies)
 
-  pub stray_so : (coming : Incoming) → below.Follows after.stack (Input coming) s (IsHeard (reading coming.bytes) (heard.Told arrivals.NoConnection)) → after.node ≡ stray_counted k.node → after.tallies ≡ k.tallies
-      → Follows after (Input coming) s n (IsHeard (reading coming.bytes) (heard.Told arrivals.NoConnection))
-  stray_so coming F node tallies = counts_as (Input coming) (IsHeard (reading coming.bytes) (heard.Told arrivals.NoConnection)) _ (input_told coming s n runs.NoConnection F.answer) F.answer (node_counts (call (Input coming) s).stack stray_counted F.stands node tallies)
+  pub refuses_so : (coming : Incoming) (why : Verdict) → below.Follows after.stack (Input coming) s (IsHeard (reading coming.bytes) (heard.Refused why)) → after.node ≡ refusal_counted why k.node → after.tallies ≡ k.tallies
+      → Follows after (Input coming) s n (IsHeard (reading coming.bytes) (heard.Refused why))
+  refuses_so coming why F node tallies = counts_as (Input coming) (IsHeard (reading coming.bytes) (heard.Refused why)) _ (input_refuses coming s n why F.answer) F.answer (node_counts (call (Input coming) s).stack (refusal_counted why) F.stands node tallies)
 
-  pub bad_so : (coming : Incoming) (fault : DatagramFault) → below.Follows after.stack (Input coming) s (IsHeard (reading coming.bytes) (heard.Told (arrivals.Bad fault))) → after.node ≡ arrival_counted (Bad fault) k.node → after.tallies ≡ k.tallies
-      → Follows after (Input coming) s n (IsHeard (reading coming.bytes) (heard.Told (arrivals.Bad fault)))
-  bad_so coming fault F node tallies =
-      counts_as (Input coming) (IsHeard (reading coming.bytes) (heard.Told (arrivals.Bad fault))) _ (input_told coming s n (runs.DatagramAnswered (Bad fault)) F.answer.0 ∙ ap (λ (r : Reading). answer_counted (Bad fault) r n) F.answer.1) F.answer
-      (node_counts (call (Input coming) s).stack (arrival_counted (Bad fault)) F.stands node tallies)
+  reached : (m : Bool) (p : Pair) (arrived : Arrived) (r : Reading) → Reaches r p → OptionIn r arrived
+      → answer_counted m arrived.arrival r n ≡ counted_at p (arrival_counted arrived.arrival) (key_ids_heard m arrived.arrival (ids_passed arrived.passed)) n
+  reached m p arrived (Read d) is told =
+      ap (λ (x : Pair). counted_at x (arrival_counted arrived.arrival) (key_ids_heard m arrived.arrival (key_ids_read (Read d))) n) (sym is)
+      ∙ ap (λ (seen : KeyIdsSeen → KeyIdsSeen). counted_at p (arrival_counted arrived.arrival) seen n) (heard_alike d m arrived.arrival arrived.passed told)
+  reached m p arrived (Unread fault) is told = absurd is
 
-  pub told_so : (coming : Incoming) (p : Pair) (arrived : Arrived) (ids : Option KeyIds) → ids ≡ ids_passed arrived.passed → OptionIn (reading coming.bytes) arrived → below.Follows after.stack (Input coming) s (IsHeard (reading coming.bytes) (heard.Told (arrivals.At p arrived))) → after.node ≡ arrival_counted arrived.arrival k.node
-      → Becomes k.tallies after.tallies p (option_map (tallied (arrival_counted arrived.arrival) (key_ids_heard arrived.arrival ids)) (tally_at k.tallies p)) → Follows after (Input coming) s n (IsHeard (reading coming.bytes) (heard.Told (arrivals.At p arrived)))
-  told_so coming p arrived ids same_ids option F node B =
-      counts_as (Input coming) (IsHeard (reading coming.bytes) (heard.Told (arrivals.At p arrived))) _ (input_told coming s n (runs.DatagramAnswered arrived.arrival) F.answer.0 ∙ reached (reading coming.bytes) F.answer.1 option) F.answer
-      (counts_more (call (Input coming) s).stack p (arrival_counted arrived.arrival) (key_ids_heard arrived.arrival ids) F.stands node B)
-    where
-      reached : (r : Reading) → Reaches r p → OptionIn r arrived → answer_counted arrived.arrival r n ≡ counted_at p (arrival_counted arrived.arrival) (key_ids_heard arrived.arrival ids) n
-      reached (Read d) is told =
-          ap (λ (x : Pair). counted_at x (arrival_counted arrived.arrival) (key_ids_heard arrived.arrival (key_ids_read (Read d))) n) (sym is)
-          ∙ ap (λ (seen : KeyIdsSeen → KeyIdsSeen). counted_at p (arrival_counted arrived.arrival) seen n) (heard_alike d arrived.arrival arrived.passed told)
-          ∙ ap (λ (x : Option KeyIds). counted_at p (arrival_counted arrived.arrival) (key_ids_heard arrived.arrival x) n) (sym same_ids)
-      reached (Unread fault) is told = absurd is
+  told_as : (coming : Incoming) (t : StackState) (m : Bool) (told : NodeArrival) → TellsFound t (reading coming.bytes) told → below.Follows after.stack (Input coming) s (IsTold m (reading coming.bytes) told) → CountsTold k after m told
+      → Follows after (Input coming) s n (IsTold m (reading coming.bytes) told)
+  told_as coming t m arrivals.NoConnection found F C =
+      counts_as (Input coming) (IsTold m (reading coming.bytes) arrivals.NoConnection) _ (input_told coming s n m runs.NoConnection F.answer) F.answer (node_counts (call (Input coming) s).stack stray_counted F.stands C.0 C.1)
+  told_as coming t m (arrivals.Bad fault) found F C =
+      counts_as (Input coming) (IsTold m (reading coming.bytes) (arrivals.Bad fault)) _ (input_told coming s n m (runs.DatagramAnswered (Bad fault)) F.answer.0 ∙ ap (λ (r : Reading). answer_counted m (Bad fault) r n) F.answer.1) F.answer
+      (node_counts (call (Input coming) s).stack (arrival_counted (Bad fault)) F.stands C.0 C.1)
+  told_as coming t m (arrivals.At p arrived) found F C =
+      counts_as (Input coming) (IsTold m (reading coming.bytes) (arrivals.At p arrived)) _ (input_told coming s n m (runs.DatagramAnswered arrived.arrival) F.answer.0 ∙ reached m p arrived (reading coming.bytes) F.answer.1 found.1) F.answer
+      (counts_more (call (Input coming) s).stack p (arrival_counted arrived.arrival) (key_ids_heard m arrived.arrival (ids_passed arrived.passed)) F.stands C.0 C.1)
+
+  -- an answer that is told, and one that moved its connection on
+  pub told_so : (coming : Incoming) (t : StackState) (told : NodeArrival) → TellsFound t (reading coming.bytes) told → below.Follows after.stack (Input coming) s (IsHeard (reading coming.bytes) (heard.Told told)) → CountsTold k after false told
+      → Follows after (Input coming) s n (IsHeard (reading coming.bytes) (heard.Told told))
+  told_so coming t told found F C = let G = told_as coming t false told found (record { stands = F.stands; answer = F.answer }) C in record { stands = G.stands; answer = G.answer }
+
+  pub moved_so : (coming : Incoming) (t : StackState) (told : NodeArrival) → TellsFound t (reading coming.bytes) told → below.Follows after.stack (Input coming) s (IsHeard (reading coming.bytes) (heard.Moved told)) → CountsTold k after true told
+      → Follows after (Input coming) s n (IsHeard (reading coming.bytes) (heard.Moved told))
+  moved_so coming t told found F C = let G = told_as coming t true told found (record { stands = F.stands; answer = F.answer }) C in record { stands = G.stands; answer = G.answer }
 
   -- ---- a datagram is handed out
 
@@ -209,5 +223,5 @@ module _ (k after : CountedStack) (s : StackState) (n : StackCounts) (S : Stands
       (output_hands now s n X.0 (event.On o.pair (act_of o.kind)) X.1 last ∙ sent o.kind X.0 made) F.answer
       (counts_more (call (Output now) s).stack o.pair (sending_counted (act_of o.kind)) (key_ids_sent ids) F.stands node B)
     where
-      sent : (kind : Transmission) (x : Emission) → ids ≡ key_ids_made x → event_counted (event.On o.pair (act_of kind)) (runs.Transmitted x) n ≡ counted_at o.pair (sending_counted (act_of kind)) (key_ids_sent ids) n
+      sent : (kind : Transmission) (x : Emission) → ids ≡ key_ids_made x → event_counted false (event.On o.pair (act_of kind)) (runs.Transmitted x) n ≡ counted_at o.pair (sending_counted (act_of kind)) (key_ids_sent ids) n
       sent kind x is = ap (λ (i : Option KeyIds). counted_at o.pair (sending_counted (act_of kind)) (key_ids_sent i) n) (sym is)

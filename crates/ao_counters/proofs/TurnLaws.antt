@@ -10,7 +10,7 @@ use Rattle.book_cmd_node.specs.declared.node.NodeEvent.{NodeEvent}
 use Rattle.book_cmd_node.specs.declared.node.NodeEvent.TheVariants as event
 use Rattle.book_cmd_node.specs.NodeRuns as node
 use Rattle.book_cmd_node.specs.NodeRuns.{Called, NodeOutcome, held_end}
-use Rattle.book_counters.specs.Counters.{StackCounts, act_counted, call_counted, event_counted, events_counted, told_counted}
+use Rattle.book_counters.specs.Counters.{StackCounts, act_counted, call_counted, event_counted, events_counted, is_moving, told_counted}
 use Rattle.book_stack.specs.declared.alarm.Alarm.{Alarm}
 use Rattle.book_stack.specs.Calls.{Hands, Output, Rests, call, handed_out}
 use Rattle.book_stack.specs.Stacks.{StackState}
@@ -21,9 +21,9 @@ use Rattle.ao_stack.proofs.LastLaws.{last_behind}
 -- a turn that hands nothing out counts nothing; else it counts the segment of its last event
 pub record Tallied (t : Turn) : Type 0 where
   pub even : length t.events ≡ length t.outcomes
-  pub silent : t.hands ≡ None → (n : StackCounts) → events_counted t.events t.outcomes n ≡ n
+  pub silent : t.hands ≡ None → (n : StackCounts) → events_counted false t.events t.outcomes n ≡ n
   pub last : (x : Emission) → t.hands ≡ Some x
-      → (e : NodeEvent) × (last_event t.events ≡ Some e) × ((n : StackCounts) → events_counted t.events t.outcomes n ≡ event_counted e (node.Transmitted x) n)
+      → (e : NodeEvent) × (last_event t.events ≡ Some e) × ((n : StackCounts) → events_counted false t.events t.outcomes n ≡ event_counted false e (node.Transmitted x) n)
 
 passes : (s : StackState) → Tallied (passing s)
 passes s = record { even = refl; silent = λ e n. refl; last = λ x e. absurd (cc) }
@@ -107,11 +107,11 @@ first_woken now s (a ∷ rest) = at (nat_le a.deadline now)
 
 -- ---- one turn after another
 
-events_joined : (xs ys : List NodeEvent) (os ps : List NodeOutcome) (n : StackCounts) → length xs ≡ length os → events_counted (xs ++ ys) (os ++ ps) n ≡ events_counted ys ps (events_counted xs os n)
+events_joined : (xs ys : List NodeEvent) (os ps : List NodeOutcome) (n : StackCounts) → length xs ≡ length os → events_counted false (xs ++ ys) (os ++ ps) n ≡ events_counted false ys ps (events_counted false xs os n)
 events_joined [] ys [] ps n e = refl
 events_joined [] ys (o ∷ os) ps n e = absurd (cc)
 events_joined (x ∷ xs) ys [] ps n e = absurd (cc)
-events_joined (x ∷ xs) ys (o ∷ os) ps n e = events_joined xs ys os ps (event_counted x o n) (cc)
+events_joined (x ∷ xs) ys (o ∷ os) ps n e = events_joined xs ys os ps (event_counted false x o n) (cc)
 
 length_joined : {A B : Type 0} (xs ys : List A) (os ps : List B) → length xs ≡ length os → length ys ≡ length ps → length (xs ++ ys) ≡ length (os ++ ps)
 length_joined [] ys [] ps e f = f
@@ -130,8 +130,8 @@ both_tallied t u none T U = record {
   last = λ x e. let L = U.last x e in (L.0, last_behind t.events u.events L.0 L.1, λ n. through n ∙ L.2 n);
 }
   where
-    through : (n : StackCounts) → events_counted (t.events ++ u.events) (t.outcomes ++ u.outcomes) n ≡ events_counted u.events u.outcomes n
-    through n = events_joined t.events u.events t.outcomes u.outcomes n T.even ∙ ap (λ (m : StackCounts). events_counted u.events u.outcomes m) (T.silent none n)
+    through : (n : StackCounts) → events_counted false (t.events ++ u.events) (t.outcomes ++ u.outcomes) n ≡ events_counted false u.events u.outcomes n
+    through n = events_joined t.events u.events t.outcomes u.outcomes n T.even ∙ ap (λ (m : StackCounts). events_counted false u.events u.outcomes m) (T.silent none n)
 
 then_first : (t : Turn) (next : StackState → Turn) → is_some t.hands ≡ true → then_turn t next ≡ t
 then_first t next some = rw some refl
@@ -168,21 +168,21 @@ hands : (o : Option Emission) (x : Emission) → handed_out o ≡ Hands x → o 
 hands None x h = absurd (cc)
 hands (Some y) x h = let same : y ≡ x = cc in ap Some same
 
-answer_alone : (o : Option Emission) (n : StackCounts) → told_counted (handed_out o) n ≡ n
-answer_alone None n = refl
-answer_alone (Some x) n = refl
+answer_alone : (o : Option Emission) (es : List NodeEvent) (os : List NodeOutcome) (n : StackCounts) → told_counted (handed_out o) (events_counted (is_moving (handed_out o)) es os n) ≡ events_counted false es os n
+answer_alone None es os n = refl
+answer_alone (Some x) es os n = refl
 
 module _ (now : ℕ) (s : StackState) (n : StackCounts) where
   pub output_rests : (call (Output now) s).answer ≡ Rests → call_counted (call (Output now) s) n ≡ n
   unfolding call
   output_rests h =
       let t = output_at now s in
-      answer_alone t.hands (events_counted t.events t.outcomes n) ∙ (output_tallied now s).silent (rests t.hands h) n
+      answer_alone t.hands t.events t.outcomes n ∙ (output_tallied now s).silent (rests t.hands h) n
 
-  pub output_hands : (x : Emission) (e : NodeEvent) → (call (Output now) s).answer ≡ Hands x → last_event (call (Output now) s).events ≡ Some e → call_counted (call (Output now) s) n ≡ event_counted e (node.Transmitted x) n
+  pub output_hands : (x : Emission) (e : NodeEvent) → (call (Output now) s).answer ≡ Hands x → last_event (call (Output now) s).events ≡ Some e → call_counted (call (Output now) s) n ≡ event_counted false e (node.Transmitted x) n
   unfolding call
   output_hands x e h last =
       let t = output_at now s in
       let L = (output_tallied now s).last x (hands t.hands x h) in
       let same : L.0 ≡ e = some_same L.0 e (sym L.1 ∙ last) in
-      answer_alone t.hands (events_counted t.events t.outcomes n) ∙ L.2 n ∙ ap (λ (y : NodeEvent). event_counted y (node.Transmitted x) n) same
+      answer_alone t.hands t.events t.outcomes n ∙ L.2 n ∙ ap (λ (y : NodeEvent). event_counted false y (node.Transmitted x) n) same

@@ -9,14 +9,14 @@ use Rattle.ao_counters.specs.declared.counts.Happened.TheVariants as happened
 
 -- the counters of the node once this happened at a connection (own)
 abbrev pub counted_by : Happened → Counters → Counters
-counted_by (happened.Heard answer ids) k = arrival_counted answer k
+counted_by (happened.Heard moved answer ids) k = arrival_counted answer k
 counted_by (happened.Sent kind ids) k = sending_counted (act_of kind) k
 counted_by (happened.Become other) k = k
 
 -- the tally of a connection once this happened at it (own)
 abbrev pub changed_by : Happened → Tally → Tally
-changed_by (happened.Heard answer ids) t =
-    tallied (arrival_counted answer) (key_ids_heard answer ids) t
+changed_by (happened.Heard moved answer ids) t =
+    tallied (arrival_counted answer) (key_ids_heard moved answer ids) t
 changed_by (happened.Sent kind ids) t =
     tallied (sending_counted (act_of kind)) (key_ids_sent ids) t
 changed_by (happened.Become other) t = other

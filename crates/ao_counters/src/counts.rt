@@ -12,8 +12,8 @@ use book_link::Transmission;
 /// What happened at a connection.
 #[derive(Clone, Copy)]
 pub(crate) enum Happened {
-    /// A segment with these key ids came, and was answered so.
-    Heard(Arrival, Option<KeyIds>),
+    /// A segment that moved the connection on, or didn't, with these key ids came, and was answered so.
+    Heard(bool, Arrival, Option<KeyIds>),
     /// A segment with these key ids was sent.
     Sent(Transmission, Option<KeyIds>),
     /// It begins, or doesn't: its tally becomes this one.
@@ -67,7 +67,7 @@ fn one_more(count: u64) -> u64
 }
 
 /// One segment more was refused by the check, for this reason.
-fn refused(counters: Counters, why: Verdict) -> Counters
+pub(crate) fn refused(counters: Counters, why: Verdict) -> Counters
     ensures { result ≡ refusal_counted why counters }
 {
     match why {
@@ -195,7 +195,7 @@ pub(crate) fn counted(counters: Counters, what: Happened) -> Counters
     ensures { result ≡ counted_by what counters }
 {
     match what {
-        Happened::Heard(arrival, _) => arrived(counters, arrival),
+        Happened::Heard(_, arrival, _) => arrived(counters, arrival),
         Happened::Sent(kind, _) => sent(counters, kind),
         Happened::Become(_) => counters,
     }
@@ -206,9 +206,9 @@ pub(crate) fn changed(tally: Tally, what: Happened) -> Tally
     ensures { result ≡ changed_by what tally }
 {
     match what {
-        Happened::Heard(arrival, ids) => Tally {
+        Happened::Heard(moved, arrival, ids) => Tally {
             counters: arrived(tally.counters, arrival),
-            ids: key_ids::heard(tally.ids, arrival, ids),
+            ids: key_ids::heard(tally.ids, moved, arrival, ids),
         },
         Happened::Sent(kind, ids) => Tally {
             counters: sent(tally.counters, kind),

@@ -58,11 +58,17 @@ pub(crate) fn sent(seen: KeyIdsSeen, ids: Option<KeyIds>) -> KeyIdsSeen
     KeyIdsSeen { sent: ids, ..seen }
 }
 
-/// The ids that were seen once a segment came that was answered so.
-pub(crate) fn heard(seen: KeyIdsSeen, arrival: Arrival, ids: Option<KeyIds>) -> KeyIdsSeen
-    ensures { result ≡ key_ids_heard arrival ids seen }
+/// The ids that were seen once a segment came that moved its connection on, or didn't, and was answered
+/// so.
+pub(crate) fn heard(
+    seen: KeyIdsSeen,
+    moved: bool,
+    arrival: Arrival,
+    ids: Option<KeyIds>,
+) -> KeyIdsSeen
+    ensures { result ≡ key_ids_heard moved arrival ids seen }
 {
-    if is_heard(arrival) {
+    if is_heard(arrival) && moved {
         KeyIdsSeen { heard: ids, ..seen }
     } else {
         seen

@@ -118,6 +118,18 @@ spelled : (d : Segment) (c : ℕ) → spell (with_sum d c) ≡ ip_front d.ip d +
 unfolding spell ip_front
 spelled d c = spelled_ip d.ip (with_sum d c) (tcp_bytes (with_sum d c) c) ∙ ap (λ (x : List ℕ). ip_front d.ip (with_sum d c) ++ x) (spelled_tcp d c) ∙ sym (append_assoc (ip_front d.ip (with_sum d c)) (tcp_front d) (put2 c (tcp_back d))) ∙ ap (λ (x : List ℕ). x ++ tcp_front d ++ put2 c (tcp_back d)) (front_same d.ip d c)
 
+put_long : (a b : ℕ) (xs : List ℕ) → length (put2 a xs) ≡ length (put2 b xs)
+unfolding put2
+put_long a b xs = refl
+
+-- a datagram is as long as it is handed out
+pub handed_long : (d : Segment) → length (spell (handed d)) ≡ length (spell d)
+handed_long d =
+    let front = ip_front d.ip d ++ tcp_front d in
+    let c = sum_handed d.checksum in
+    ap length (spelled d c) ∙ length-append front (put2 c (tcp_back d)) ∙ ap (λ (k : ℕ). length front + k) (put_long c d.checksum (tcp_back d))
+    ∙ sym (length-append front (put2 d.checksum (tcp_back d))) ∙ sym (ap length (spelled d d.checksum))
+
 front_long : (pair : Pair) (size : ℕ) (d : Segment) (one two : Address) → IsOneFamily one two → IsSized one → IsSized two → d.source.address ≡ one → d.destination.address ≡ two
     → length (ip_front (written_ip pair size one) d) + 16 ≡ sum_place one
 unfolding ip_front put2 put4

@@ -1,5 +1,5 @@
 -- What is told of an end that was asked for a segment is what the definitions answer.
-use Rattle.std.proofs.Common.{◌≡◌, ℕ, ◌≤◌, List, Option, Some, None, take, refl, sym, subst, arith}
+use Rattle.std.proofs.Common.{◌≡◌, ℕ, ◌≤◌, List, Option, Some, None, length, take, refl, sym, subst, ◌∙◌, arith}
 use Rattle.std.specs.Prelude.{⊤}
 use Rattle.book_base.specs.declared.address.Pair.{Pair}
 use Rattle.book_segments.specs.Segments.{Segment, checksum_of, complement_of, spell}
@@ -21,6 +21,7 @@ use Rattle.ao_stack.specs.Checksums.{IsFrom, IsFromIf}
 use Rattle.ao_stack.specs.Timers.{asked_saying, asked_turn, woken_by}
 use Rattle.ao_stack.specs.Turns.{Makes}
 use Rattle.ao_stack.specs.declared.outgoing.Outgoing.{Outgoing}
+use Rattle.ao_stack.proofs.HandLaws.{handed_long}
 use Rattle.book_link.specs.declared.event.Transmission.{Transmission}
 
 -- ---- the segment of an answer
@@ -30,6 +31,7 @@ pub record IsSent (room : List ℕ) (n : ℕ) (o : NodeOutcome) : Type 0 where
   pub emission : Emission
   pub is : segment_in o ≡ Some emission
   pub bytes : take n room ≡ spell emission.segment
+  pub size : n ≡ length (spell emission.segment)
 
 pub said_segment : (room : List ℕ) (n : ℕ) (o : NodeOutcome) → SaysAs room (says.Segment n) o → IsSent room n o
 said_segment room n node.Performed h = absurd h
@@ -38,7 +40,7 @@ said_segment room n node.NodeFull h = absurd h
 said_segment room n node.NoConnection h = absurd h
 said_segment room n node.NoRoom h = absurd h
 said_segment room n node.ConnectionClosing h = absurd h
-said_segment room n (node.Transmitted x) h = record { emission = x; is = refl; bytes = h }
+said_segment room n (node.Transmitted x) h = record { emission = x; is = refl; bytes = h.0; size = h.1 }
 said_segment room n node.NoUsableKey h = absurd h
 said_segment room n node.NothingToSend h = absurd h
 said_segment room n node.NothingToResend h = absurd h
@@ -161,7 +163,7 @@ made_segment p kind before room after n o h from change =
     let X = said_segment room n o h in
     let F : IsFromIf p (Some X.emission) = subst (λ (z : Option Emission). IsFromIf p z) X.is from in
     let told : Outgoing = record { length = n; pair = p; kind = kind } in
-    subst (λ (z : Option Emission). Makes p kind before after (Some told) z) (sym X.is) (record { hands = change n X.emission.segment F X.bytes; by = (refl, refl); stays = tt })
+    subst (λ (z : Option Emission). Makes p kind before after (Some told) z) (sym X.is) (record { hands = (change n X.emission.segment F X.bytes, X.size ∙ sym (handed_long X.emission.segment)); by = (refl, refl); stays = tt })
 
 pub made_none : (p : Pair) (kind : Transmission) (before after : List ℕ) (o : NodeOutcome) → segment_in o ≡ None → after ≡ before → Makes p kind before after None (segment_in o)
 made_none p kind before after o e same = subst (λ (z : Option Emission). Makes p kind before after None z) (sym e) (record { hands = tt; by = tt; stays = same })

@@ -91,21 +91,30 @@ abbrev pub Reaches : Reading → Pair → Type 0
 Reaches (Read d) pair = pair ≡ pair_reached d
 Reaches (Unread fault) pair = ⊥
 
--- what bytes that came and are read so were answered (own)
-abbrev pub IsTold : Reading → NodeArrival → CallAnswer → Type 0
-IsTold r (arrivals.Bad fault) a =
-    (a ≡ book.Told (node.DatagramAnswered (Bad fault))) × (r ≡ Unread fault)
-IsTold r arrivals.NoConnection a = a ≡ book.Told node.NoConnection
-IsTold r (arrivals.At pair arrived) a =
-    (a ≡ book.Told (node.DatagramAnswered arrived.arrival)) × Reaches r pair
+-- what bytes that came and are read so were answered, by whether they moved a connection on (own)
+abbrev pub IsTold : (moved : Bool) → Reading → NodeArrival → CallAnswer → Type 0
+IsTold moved r (arrivals.Bad fault) a =
+    (a ≡ book.answer_moving moved (node.DatagramAnswered (Bad fault))) × (r ≡ Unread fault)
+IsTold moved r arrivals.NoConnection a = a ≡ book.answer_moving moved node.NoConnection
+IsTold moved r (arrivals.At pair arrived) a =
+    (a ≡ book.answer_moving moved (node.DatagramAnswered arrived.arrival)) × Reaches r pair
 
--- what they were answered, or a segment knocked (own)
+-- what they were answered, or a segment knocked, or one that asked for a connection was refused (own)
 abbrev pub IsHeard : Reading → Heard → CallAnswer → Type 0
-IsHeard r (heard.Told told) a = IsTold r told a
+IsHeard r (heard.Told told) a = IsTold false r told a
+IsHeard r (heard.Moved told) a = IsTold true r told a
 IsHeard r (heard.Knocks pair) a = a ≡ book.Knocks pair
+IsHeard r (heard.Refused why) a = a ≡ book.Refuses why
 
--- the datagram that is handed out stands in front of the buffer; or none is due (own)
+-- what was answered, by whether the segment moved its connection on (own)
+abbrev pub heard_moving : Bool → NodeArrival → Heard
+heard_moving true told = heard.Moved told
+heard_moving false told = heard.Told told
+
+-- the datagram that is handed out, of this length, stands in front of the buffer; or none is due
+-- (own)
 abbrev pub IsHanded : List ℕ → Option ℕ → CallAnswer → Type 0
-IsHanded room (Some n) (book.Hands x) = take n room ≡ spell (handed x.segment)
+IsHanded room (Some n) (book.Hands x) =
+    (take n room ≡ spell (handed x.segment)) × (n ≡ length (spell (handed x.segment)))
 IsHanded room None book.Rests = ⊤
 IsHanded room _ _ = ⊥

@@ -39,4 +39,6 @@ TellsFound s r _ = ⊤
 -- the same of a stack, once its clock is set (own)
 abbrev pub PassesAs : StackState → Reading → Heard → Type 0
 PassesAs s r (heard.Told told) = TellsFound s r told
+PassesAs s r (heard.Moved told) = TellsFound s r told
 PassesAs s r (heard.Knocks pair) = ⊤
+PassesAs s r (heard.Refused why) = ⊤

@@ -48,9 +48,11 @@ abbrev pub MadeLast : Option Outgoing → List NodeEvent → Type 0
 MadeLast None es = ⊤
 MadeLast (Some o) es = last_event es ≡ Some (event.On o.pair (act_of o.kind))
 
--- the segment that a turn hands out stands in front of the buffer; or it hands out none (own)
+-- the segment that a turn hands out, of this length, stands in front of the buffer; or it hands out
+-- none (own)
 abbrev pub HandsAs : List ℕ → Option Outgoing → Option Emission → Type 0
-HandsAs room (Some o) (Some x) = take o.length room ≡ spell (handed x.segment)
+HandsAs room (Some o) (Some x) =
+    (take o.length room ≡ spell (handed x.segment)) × (o.length ≡ length (spell (handed x.segment)))
 HandsAs room None None = ⊤
 HandsAs room _ _ = ⊥
 

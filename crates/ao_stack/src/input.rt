@@ -1,29 +1,30 @@
 //! A datagram comes.
-ghost use Rattle.std.specs.Prelude.{◌≡◌, ◌≤◌, ◌<◌, ◌&&◌, ℕ, List, Option, Some, option_map};
+ghost use Rattle.std.specs.Prelude.{◌≡◌, ◌≤◌, ◌<◌, ◌&&◌, ℕ, true, List, Option, Some, Err, is_some, option_map};
 ghost use Rattle.book_base.specs.declared.address.Pair.{Pair as OnePair};
-ghost use Rattle.book_segments.specs.Segments.{Segment, Read, good, reading};
+ghost use Rattle.book_segments.specs.Segments.{Segment, Read, SYN, good, has, reading};
 ghost use Rattle.book_endpoint.specs.Arrivals.{syn_alone};
 ghost use Rattle.book_endpoint.specs.States.{EndState};
 ghost use Rattle.book_cmd_node.specs.NodeRuns.{held_end};
 ghost use Rattle.book_segments.specs.Segments.{pair_reached};
-ghost use Rattle.book_stack.specs.Calls.{Input, after_segment_heard, heard_pair, met};
-ghost use Rattle.book_stack.specs.Stacks.{StackState, is_free, is_over, knocks};
+ghost use Rattle.book_stack.specs.Calls.{Input, after_segment_heard, asked_for, heard_pair, met};
+ghost use Rattle.book_stack.specs.Stacks.{StackState, asking_judged, asks, is_free, is_over};
 ghost use Rattle.book_stack.specs.Turns.{clocked};
-ghost use Rattle.book_stack.specs.Watches.{end_front};
+ghost use Rattle.book_stack.specs.Watches.{end_front, moves_on};
+ghost use Rattle.stack_ends.specs.Arrivals.{IsJudged};
 ghost use Rattle.stack_timers.specs.Watches.{latest};
 ghost use Rattle.node_ends.specs.declared.answer.NodeArrival.TheVariants.{At};
 ghost use Rattle.tcp_endpoint.specs.declared.arrival.Arrived.{Arrived as OneArrived};
-ghost use Rattle.ao_stack.specs.Answers.{Does, Follows, IsHeard, IsTold};
-ghost use Rattle.ao_stack.specs.Passed.{PassesAs, TellsFound};
+ghost use Rattle.ao_stack.specs.Answers.{Does, Follows, IsHeard, heard_moving};
+ghost use Rattle.ao_stack.specs.Passed.{PassesAs};
 ghost use Rattle.ao_stack.specs.Stands.{Stands};
 
 use crate::stack::Stack;
 use ao_base::Steps;
 use book_base::Pair;
-use book_endpoint::{Arrival, Phase};
+use book_endpoint::{Arrival, Phase, Verdict};
 use book_stack::{Change, Front};
 use node_ends::NodeArrival;
-use stack_timers::is_heard;
+use stack_timers::{is_heard, moves_on};
 use std::marker::Brand;
 use std::sync::ledger::{Blank, Ledger};
 use tcp_segment::{Datagram, Flag, read_datagram};
@@ -31,11 +32,17 @@ use tcp_segment::{Datagram, Flag, read_datagram};
 /// What a stack answers to a datagram that comes.
 #[derive(Clone, Copy, Debug)]
 pub enum Heard<'a> {
-    /// The answer of its end, or why none heard it.
+    /// The answer of its end, or why none heard it. It brought nothing new.
     Told(NodeArrival<'a>),
-    /// A SYN for a pair that is free: not held, or in TIME-WAIT, or closed. Nothing was heard; a user who
-    /// wants the connection drops the old one, lets a new one listen, and hands the datagram in again.
+    /// The answer of its end to a segment that moved its connection on: it acknowledged a number that
+    /// wasn't, or brought the one that was expected. What was taken once moves nothing when it is sent again.
+    Moved(NodeArrival<'a>),
+    /// A SYN for a pair that is free: not held, or in TIME-WAIT, or closed. It passed the check, but
+    /// nothing was heard; a user who wants the connection drops the old one, lets a new one listen, and
+    /// hands the datagram in again. One of an earlier connection passes too, whoever sends it again.
     Knocks(Pair),
+    /// A SYN for a pair that isn't held, and that the check refuses. Nothing was heard.
+    Refused(Verdict),
 }
 
 /// SYN without ACK, RST and FIN, and the checksum is right.
@@ -66,42 +73,72 @@ fn is_free(front: Option<Front>) -> bool
     }
 }
 
-/// Whether a segment knocks that asks for a connection or doesn't, where the end of its pair stands so.
-fn knocks(asks: bool, front: Option<Front>) -> bool
-    ensures { (d : Segment) (held : Option EndState) → asks ≡ (syn_alone d && good d) → front ≡ option_map end_front held → result ≡ knocks d held }
+/// Whether a segment that is such a SYN or isn't asks for a connection, where the end of its pair stands
+/// so.
+fn asks_anew(alone: bool, front: Option<Front>) -> bool
+    ensures asks { (d : Segment) (held : Option EndState) → alone ≡ (syn_alone d && good d) → front ≡ option_map end_front held → result ≡ asks d held }
+    ensures only { result ≡ true → alone ≡ true }
 {
-    asks && is_free(front)
+    alone && is_free(front)
+}
+
+/// What was told, by whether the segment moved its connection on.
+fn heard_moving(told: NodeArrival<'_>, moved: bool) -> Heard<'_>
+    ensures { result ≡ heard_moving moved told.entry }
+{
+    if moved {
+        Heard::Moved(told)
+    } else {
+        Heard::Told(told)
+    }
 }
 
 impl Stack {
-    /// The end of the pair, which stood so before, heard a segment with this answer.
-    fn follow(&mut self, pair: &Pair, now: u64, before: Front, arrival: Arrival)
+    /// The end of the pair heard a segment with this answer, which changed it so.
+    fn follow_change(&mut self, pair: &Pair, now: u64, arrival: Arrival, change: Change)
         requires { now ≤ latest }
-        ensures { (s : StackState) (e : EndState) → Stands self.old s → held_end pair.now s.node.ends ≡ Some e
-            → Stands self.new (after_segment_heard now pair.now arrival (record { before = before; after = end_front e }) s) }
+        ensures { (s : StackState) → Stands self.old s → is_some (held_end pair.now s.node.ends) ≡ true
+            → Stands self.new (after_segment_heard now pair.now arrival change s) }
     {
         let heard = is_heard(arrival);
         if !heard {
             return;
         }
+        self.time_arrival(pair, now, change);
+        self.touch(pair);
+    }
+
+    /// The end of the pair, which stood so before, heard a segment with this answer. Whether that moved
+    /// the connection on.
+    fn follow(&mut self, pair: &Pair, now: u64, before: Front, arrival: Arrival) -> bool
+        requires { now ≤ latest }
+        ensures stands { (s : StackState) (e : EndState) → Stands self.old s → held_end pair.now s.node.ends ≡ Some e
+            → Stands self.new (after_segment_heard now pair.now arrival (record { before = before; after = end_front e }) s) }
+        ensures moved { (s : StackState) (e : EndState) → Stands self.old s → held_end pair.now s.node.ends ≡ Some e
+            → result ≡ moves_on (record { before = before; after = end_front e }) }
+    {
         match self.ends.front(pair) {
-            None => {}
+            None => false,
             Some(after) => {
-                self.time_arrival(pair, now, arrival, Change { before, after });
-                self.touch(pair);
+                let change = Change { before, after };
+                self.follow_change(pair, now, arrival, change);
+                moves_on(change)
             }
         }
     }
 
-    /// The end of the pair, which stood so before, was told of a segment.
-    fn follow_told(&mut self, pair: &Pair, now: u64, before: Front, told: &NodeArrival<'_>)
+    /// The end of the pair, which stood so before, was told of a segment. Whether that moved the
+    /// connection on.
+    fn follow_told(&mut self, pair: &Pair, now: u64, before: Front, told: &NodeArrival<'_>) -> bool
         requires { now ≤ latest }
-        ensures { (s : StackState) (e : EndState) (p : OnePair) (arrived : OneArrived) → Stands self.old s → held_end pair.now s.node.ends ≡ Some e → told.now ≡ At p arrived
+        ensures stands { (s : StackState) (e : EndState) (p : OnePair) (arrived : OneArrived) → Stands self.old s → held_end pair.now s.node.ends ≡ Some e → told.now ≡ At p arrived
             → Stands self.new (after_segment_heard now pair.now arrived.arrival (record { before = before; after = end_front e }) s) }
+        ensures moved { (s : StackState) (e : EndState) (p : OnePair) (arrived : OneArrived) → Stands self.old s → held_end pair.now s.node.ends ≡ Some e → told.now ≡ At p arrived
+            → result ≡ moves_on (record { before = before; after = end_front e }) }
     {
         match told {
-            NodeArrival::Bad(_) => {}
-            NodeArrival::NoConnection => {}
+            NodeArrival::Bad(_) => false,
+            NodeArrival::NoConnection => false,
             NodeArrival::At(_, arrived) => self.follow(pair, now, before, arrived.arrival),
         }
     }
@@ -113,44 +150,91 @@ impl Stack {
         pair: &Pair,
         now: u64,
         datagram: &Datagram<'a>,
-    ) -> NodeArrival<'a>
+    ) -> Heard<'a>
         requires name { blank.name ≡ L.name }
         requires parts { blank.parts ≡ L.parts }
         requires part { 0 < blank.parts }
         requires time { now ≤ latest }
         ensures told { (s : StackState) (bytes : List ℕ) → Stands self.old s → reading bytes ≡ Read datagram.now → pair.now ≡ pair_reached datagram.now
-            → Does self.new (IsTold (Read datagram.now) result) (heard_pair (record { now = now; bytes = bytes }) (pair_reached datagram.now) datagram.now s (held_end (pair_reached datagram.now) s.node.ends)) }
-        ensures passed { (s : StackState) → Stands self.old s → TellsFound s (Read datagram.now) result }
+            → Does self.new (IsHeard (Read datagram.now) result) (heard_pair (record { now = now; bytes = bytes }) (pair_reached datagram.now) datagram.now s (held_end (pair_reached datagram.now) s.node.ends)) }
+        ensures passed { (s : StackState) → Stands self.old s → PassesAs s (Read datagram.now) result }
     {
         match self.ends.front(pair) {
-            None => NodeArrival::NoConnection,
+            None => Heard::Told(NodeArrival::NoConnection),
             Some(before) => {
                 let told = self
                     .ends
                     .hear_datagram(datagram, &mut Steps::<L>::new(blank));
-                self.follow_told(pair, now, before, &told);
-                told
+                let moved = self.follow_told(pair, now, before, &told);
+                heard_moving(told, moved)
             }
         }
+    }
+
+    /// A SYN that the check refused comes for the pair, whose end, if it is held, stands so and is over:
+    /// that end answers it.
+    fn refuse<'a>(
+        &mut self,
+        why: Verdict,
+        front: Option<Front>,
+        pair: &Pair,
+        now: u64,
+        datagram: &Datagram<'a>,
+    ) -> Heard<'a>
+        requires time { now ≤ latest }
+        ensures told { (s : StackState) (bytes : List ℕ) → Stands self.old s → reading bytes ≡ Read datagram.now → pair.now ≡ pair_reached datagram.now
+            → front ≡ option_map end_front (held_end (pair_reached datagram.now) s.node.ends)
+            → Does self.new (IsHeard (Read datagram.now) result) (asked_for (record { now = now; bytes = bytes }) datagram.now s (held_end (pair_reached datagram.now) s.node.ends) (Err why)) }
+        ensures passed { (s : StackState) → Stands self.old s → PassesAs s (Read datagram.now) result }
+    {
+        match front {
+            None => Heard::Refused(why),
+            Some(_) => self.hear::<Brand>(Blank::new(1), pair, now, datagram),
+        }
+    }
+
+    /// Whether a SYN passes the check as one for a connection of which nothing is known yet, or the first
+    /// refusal.
+    fn judge<L: Ledger>(
+        &self,
+        blank: Blank,
+        pair: &Pair,
+        datagram: &Datagram<'_>,
+    ) -> Result<(), Verdict>
+        requires name { blank.name ≡ L.name }
+        requires parts { blank.parts ≡ L.parts }
+        requires part { 0 < blank.parts }
+        requires syn { has SYN datagram.now ≡ true }
+        requires reached { pair.now ≡ pair_reached datagram.now }
+        ensures { (s : StackState) → Stands self.now s → IsJudged result (asking_judged s datagram.now) }
+    {
+        self.ends
+            .check_syn(pair, datagram, &mut Steps::<L>::new(blank))
     }
 
     /// A segment comes for the pair, and asks for a connection or not.
     fn meet<'a>(&mut self, pair: &Pair, asks: bool, now: u64, datagram: &Datagram<'a>) -> Heard<'a>
         requires time { now ≤ latest }
-        ensures told { (s : StackState) (bytes : List ℕ) → Stands self.old s → reading bytes ≡ Read datagram.now → pair.now ≡ pair_reached datagram.now → asks ≡ (syn_alone datagram.now && good datagram.now)
+        requires reached { pair.now ≡ pair_reached datagram.now }
+        requires asks { asks ≡ (syn_alone datagram.now && good datagram.now) }
+        ensures told { (s : StackState) (bytes : List ℕ) → Stands self.old s → reading bytes ≡ Read datagram.now
             → Does self.new (IsHeard (Read datagram.now) result) (met (record { now = now; bytes = bytes }) datagram.now s (held_end (pair_reached datagram.now) s.node.ends)) }
         ensures passed { (s : StackState) → Stands self.old s → PassesAs s (Read datagram.now) result }
     {
-        let knocks = knocks(asks, self.ends.front(pair));
-        if knocks {
-            return Heard::Knocks(*pair);
+        let front = self.ends.front(pair);
+        let asks_anew = asks_anew(asks, front);
+        if !asks_anew {
+            return self.hear::<Brand>(Blank::new(1), pair, now, datagram);
         }
-        Heard::Told(self.hear::<Brand>(Blank::new(1), pair, now, datagram))
+        match self.judge::<Brand>(Blank::new(1), pair, datagram) {
+            Ok(()) => Heard::Knocks(*pair),
+            Err(why) => self.refuse(why, front, pair, now, datagram),
+        }
     }
 
     /// A datagram comes at `now`, in milliseconds since 1970 and at most the last one of the year 9999: to
-    /// the end of its pair (RFC 9293, section 3.10.7), which is told, or it knocks. Of a segment that passed
-    /// the check the answer has the row, the number, the context and the TCP-AO option that were found, and
+    /// the end of its pair (RFC 9293, section 3.10.7), which is told, or it knocks, or is a SYN that the check
+    /// refuses where no connection is held. Of a segment that its end heard the answer has the row, the number, the context and the TCP-AO option that were found, and
     /// of no other.
     pub fn input<'a>(&mut self, now: u64, bytes: &'a [u8]) -> Heard<'a>
         requires time { now ≤ latest }

@@ -9,7 +9,7 @@ ghost use Rattle.ao_stack.specs.Timers.{asked_by, woken_by};
 
 use crate::stack::Stack;
 use book_base::Pair;
-use book_endpoint::{Arrival, Phase};
+use book_endpoint::Phase;
 use book_stack::Change;
 use stack_ends::{Says, Spoken};
 use stack_timers::Watch;
@@ -40,15 +40,15 @@ fn wake(watch: &mut Watch, now: u64, phase: Phase, says: Says)
 
 impl Stack {
     /// The timer of the pair after its end heard a segment, and its alarm.
-    pub(crate) fn time_arrival(&mut self, pair: &Pair, now: u64, arrival: Arrival, change: Change)
+    pub(crate) fn time_arrival(&mut self, pair: &Pair, now: u64, change: Change)
         requires { now ≤ latest }
         ensures { (s : StackState) → Stands self.old s → is_some (held_end pair.now s.node.ends) ≡ true
-            → Stands self.new (watched pair.now (arrived now arrival change (s.watches pair.now)) s) }
+            → Stands self.new (watched pair.now (arrived now change (s.watches pair.now)) s) }
     {
         match self.watches.get_mut(pair) {
             None => {}
             Some(watch) => {
-                watch.arrive(now, arrival, change);
+                watch.arrive(now, change);
                 let deadline = watch.deadline();
                 self.alarms.set(pair, deadline);
             }

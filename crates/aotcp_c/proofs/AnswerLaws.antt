@@ -1,5 +1,7 @@
 -- The code that a call answers is that of what the book answers.
-use Rattle.std.proofs.Common.{◌≡◌, ◌∙◌, sym, ap, refl, subst, ℕ, ℤ, pos, Bool, true, false, Option, Some, None, List, Result, Ok, Err, option_map, to_z, of_z, w32}
+use Rattle.std.proofs.lemmas.List.{length-take}
+use Rattle.std.proofs.Math.Nat.{min-le_right}
+use Rattle.std.proofs.Common.{◌≡◌, ◌∙◌, sym, ap, refl, subst, ℕ, ℤ, pos, Bool, true, false, Option, Some, None, List, length, take, ◌≤◌, Result, Ok, Err, option_map, to_z, of_z, w32, arith}
 use Rattle.book_keys.specs.declared.new_row.NoRow.{NoRow}
 use Rattle.book_endpoint.specs.States.{EndState}
 use Rattle.book_cmd_node.specs.NodeRuns as node
@@ -7,7 +9,8 @@ use Rattle.book_stack.specs.declared.front.Front.{Front}
 use Rattle.book_counters.specs.Counters.{StackCounts}
 use Rattle.book_stack.specs.Calls as book
 use Rattle.book_stack.specs.Calls.{Call, CallAnswer, call}
-use Rattle.book_stack.specs.Stacks.{StackState}
+use Rattle.book_segments.specs.Segments.{spell}
+use Rattle.book_stack.specs.Stacks.{StackState, handed}
 use Rattle.book_stack.specs.Watches.{end_front}
 use Rattle.tcp_endpoint.specs.declared.send.GiveAnswer.{GiveAnswer}
 use Rattle.tcp_endpoint.specs.declared.send.GiveAnswer.TheVariants as given
@@ -97,16 +100,27 @@ Handed room n code a = (code ≡ code_of a) × IsIn room n a
 pub rests : (room : List ℕ) (n : ℕ) (a : CallAnswer) → IsHanded room None a → Handed room n (pos 19) a
 rests room n book.Rests is = (refl, tt)
 rests room n (book.Told o) is = absurd is
+rests room n (book.Moves o) is = absurd is
 rests room n (book.Knocks p) is = absurd is
+rests room n (book.Refuses why) is = absurd is
 rests room n (book.Hands x) is = absurd is
 rests room n (book.Adds x) is = absurd is
 rests room n book.Withdraws is = absurd is
 rests room n book.NoSuchRow is = absurd is
 
+-- as many bytes as are taken of a room are in it
+fits : (n : ℕ) (room bytes : List ℕ) → take n room ≡ bytes → n ≡ length bytes → n ≤ length room
+fits n room bytes front long =
+    let taken = length-take n room in
+    let same : length (take n room) ≡ length bytes = ap length front in
+    let below = min-le_right n (length room) in omega (arith, taken, same, long, below)
+
 pub hands : (room : List ℕ) (n : ℕ) (a : CallAnswer) → IsHanded room (Some n) a → Handed room n (pos 0) a
-hands room n (book.Hands x) is = (refl, is)
+hands room n (book.Hands x) is = (refl, record { front = is.0; long = is.1; within = fits n room (spell (handed x.segment)) is.0 is.1 })
 hands room n (book.Told o) is = absurd is
+hands room n (book.Moves o) is = absurd is
 hands room n (book.Knocks p) is = absurd is
+hands room n (book.Refuses why) is = absurd is
 hands room n book.Rests is = absurd is
 hands room n (book.Adds x) is = absurd is
 hands room n book.Withdraws is = absurd is

@@ -88,9 +88,15 @@ pub record Hears (k : CountedStack) (coming : Incoming) (s : StackState) (n : St
   pub hears : coming.now ≤ latest
       → Follows k (book.Input coming) s n (TellsHeard coming s told)
 
--- a datagram of this length that is handed out stands in front of the room (own)
+-- a datagram that is handed out stands in front of the room, within it, and this is its length (own)
+pub record InRoom (room : List ℕ) (n : ℕ) (bytes : List ℕ) : Type 0 where
+  pub front : take n room ≡ bytes
+  pub long : n ≡ length bytes
+  pub within : n ≤ length room
+
+-- the same of a datagram that an answer hands out (own)
 abbrev pub IsIn : List ℕ → ℕ → CallAnswer → Type 0
-IsIn room n (book.Hands x) = take n room ≡ spell (handed x.segment)
+IsIn room n (book.Hands x) = InRoom room n (spell (handed x.segment))
 IsIn room n _ = ⊤
 
 -- the next datagram is handed out, or none is due, and the room is as it was (own)

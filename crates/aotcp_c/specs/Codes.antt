@@ -90,7 +90,9 @@ adding_code (tables.OverlapsRow n) = pos 18
 -- the code of what a stack answers (own)
 abbrev pub code_of : CallAnswer → ℤ
 code_of (book.Told outcome) = outcome_code outcome
+code_of (book.Moves outcome) = outcome_code outcome
 code_of (book.Knocks pair) = pos 0
+code_of (book.Refuses why) = pos 0
 code_of (book.Hands x) = pos 0
 code_of book.Rests = pos 19
 code_of (book.Adds adding) = adding_code adding

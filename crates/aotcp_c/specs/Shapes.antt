@@ -17,7 +17,7 @@ use Rattle.aotcp_c.specs.declared.shapes.CPair.{CPair}
 use Rattle.aotcp_c.specs.declared.shapes.CFault.{CFault}
 use Rattle.aotcp_c.specs.declared.shapes.CHeard.{CHeard}
 use Rattle.aotcp_c.specs.declared.shapes.CState.{CState}
-use Rattle.aotcp_c.specs.Numbers.{arrival_number, column_number, datagram_number, phase_number, reason_number}
+use Rattle.aotcp_c.specs.Numbers.{arrival_number, column_number, datagram_number, phase_number, reason_number, verdict_number}
 
 -- the first four bytes (own)
 abbrev pub four : List ℕ → List ℕ
@@ -126,6 +126,8 @@ told_of (told.At pair arrived) = record {
 -- what a stack answers to a datagram, as numbers (own)
 abbrev pub heard_of : Heard → CHeard
 heard_of (heard.Told answer) = told_of answer
+heard_of (heard.Moved answer) = told_of answer
+heard_of (heard.Refused why) = answered 4 (verdict_number why)
 heard_of (heard.Knocks pair) = record {
   number = 0;
   pair = told_pair pair;

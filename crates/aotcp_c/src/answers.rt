@@ -3,7 +3,7 @@ ghost use Rattle.std.specs.Prelude.{◌≡◌};
 ghost use Rattle.tcp_endpoint.specs.Arrivals.{found_of};
 ghost use Rattle.aotcp_c.specs.Shapes.{answered, heard_of, number_in, row_in, told_of};
 
-use crate::numbers::{arrival_number, datagram_number, reason_number};
+use crate::numbers::{arrival_number, datagram_number, reason_number, verdict_number};
 use crate::pairs::{no_pair, told_pair};
 use crate::shapes::CHeard;
 use ao_stack::Heard;
@@ -68,6 +68,8 @@ pub(crate) fn heard_of(heard: &Heard<'_>) -> CHeard
 {
     match heard {
         Heard::Told(told) => told_of(told),
+        Heard::Moved(told) => told_of(told),
+        Heard::Refused(why) => answered(4, verdict_number(*why)),
         Heard::Knocks(pair) => CHeard {
             number: 0,
             pair: told_pair(pair),

@@ -1,7 +1,7 @@
 -- What is counted of a stack: of its node, and of each of its connections, with the key ids that it
 -- saw last (own). Its top is `counts_after`.
-use Rattle.std.specs.Prelude.{ℕ, ◌+◌, min, List, [], ◌∷◌, Option, Some, None, option_map}
-use Rattle.std.specs.Prelude.{if◌then◌else◌}
+use Rattle.std.specs.Prelude.{ℕ, ◌+◌, min, Bool, true, false, List, [], ◌∷◌, Option, Some, None}
+use Rattle.std.specs.Prelude.{option_map, if◌then◌else◌}
 use Rattle.book_base.specs.declared.address.Pair.{Pair}
 use Rattle.book_segments.specs.Segments.{Reading, Read, Bad as Unread, pair_reached, reading}
 use Rattle.book_endpoint.specs.declared.arrival.Arrival.{Arrival}
@@ -14,7 +14,7 @@ use Rattle.book_cmd_node.specs.declared.node.NodeEvent.{NodeEvent}
 use Rattle.book_cmd_node.specs.declared.node.NodeEvent.TheVariants as event
 use Rattle.book_cmd_node.specs.NodeRuns.{NodeOutcome, Performed, NoConnection, Transmitted}
 use Rattle.book_cmd_node.specs.NodeRuns.{DatagramAnswered, same_pair}
-use Rattle.book_stack.specs.Calls.{Call, CallAnswer, Did, Knocks, call}
+use Rattle.book_stack.specs.Calls.{Call, CallAnswer, Did, Knocks, Moves, Refuses, call}
 use Rattle.book_stack.specs.Stacks.{StackState}
 use Rattle.book_counters.specs.declared.counters.Counters.{Counters}
 use Rattle.book_counters.specs.declared.key_ids.KeyIdsSeen.{KeyIdsSeen}
@@ -129,38 +129,49 @@ act_counted (Transmitted x) pair a n =
     counted_at pair (sending_counted a) (key_ids_sent (key_ids_made x)) n
 act_counted _ pair a n = n
 
--- an end, or the node, answered bytes that are read so (own)
-abbrev pub answer_counted : Arrival → Reading → StackCounts → StackCounts
-answer_counted a (Read d) n =
-    counted_at (pair_reached d) (arrival_counted a) (key_ids_heard a (key_ids_read (Read d))) n
-answer_counted a (Unread fault) n = record n { node = arrival_counted a n.node }
+-- an end, or the node, answered bytes that are read so, which moved the connection on or didn't
+-- (own)
+abbrev pub answer_counted : (moved : Bool) → Arrival → Reading → StackCounts → StackCounts
+answer_counted moved a (Read d) n = counted_at (pair_reached d) (arrival_counted a)
+    (key_ids_heard moved a (key_ids_read (Read d))) n
+answer_counted moved a (Unread fault) n = record n { node = arrival_counted a n.node }
 
 -- bytes that are read so came, and were answered so (own)
-abbrev pub datagram_counted : NodeOutcome → Reading → StackCounts → StackCounts
-datagram_counted (DatagramAnswered a) r n = answer_counted a r n
-datagram_counted NoConnection r n = record n { node = stray_counted n.node }
-datagram_counted _ r n = n
+abbrev pub datagram_counted : (moved : Bool) → NodeOutcome → Reading → StackCounts → StackCounts
+datagram_counted moved (DatagramAnswered a) r n = answer_counted moved a r n
+datagram_counted moved NoConnection r n = record n { node = stray_counted n.node }
+datagram_counted moved _ r n = n
 
 -- a plain event was answered so (own)
-abbrev pub event_counted : NodeEvent → NodeOutcome → StackCounts → StackCounts
-event_counted (event.Clock seconds) o n = n
-event_counted (event.Inject bytes) o n = datagram_counted o (reading bytes) n
-event_counted (event.On pair a) o n = act_counted o pair a n
+abbrev pub event_counted : (moved : Bool) → NodeEvent → NodeOutcome → StackCounts → StackCounts
+event_counted moved (event.Clock seconds) o n = n
+event_counted moved (event.Inject bytes) o n = datagram_counted moved o (reading bytes) n
+event_counted moved (event.On pair a) o n = act_counted o pair a n
 
--- plain events were answered so, each in its turn (own)
-abbrev pub events_counted : List NodeEvent → List NodeOutcome → StackCounts → StackCounts
-events_counted [] os n = n
-events_counted (e ∷ es) [] n = n
-events_counted (e ∷ es) (o ∷ os) n = events_counted es os (event_counted e o n)
+-- plain events were answered so, each in its turn; of a call at most one brings bytes (own)
+abbrev pub events_counted : (moved : Bool) → List NodeEvent → List NodeOutcome → StackCounts
+    → StackCounts
+events_counted moved [] os n = n
+events_counted moved (e ∷ es) [] n = n
+events_counted moved (e ∷ es) (o ∷ os) n =
+    events_counted moved es os (event_counted moved e o n)
 
--- a call was answered so: of what makes no plain event, a SYN that knocks is counted (own)
+-- a call was answered so: of what makes no plain event, a SYN that knocks is counted, and one that
+-- is refused, by its cause (own)
 abbrev pub told_counted : CallAnswer → StackCounts → StackCounts
 told_counted (Knocks pair) n = record n { node = knock_counted n.node }
+told_counted (Refuses why) n = record n { node = refusal_counted why n.node }
 told_counted _ n = n
+
+-- the answer is to a segment that moved its connection on (own)
+abbrev pub is_moving : CallAnswer → Bool
+is_moving (Moves o) = true
+is_moving _ = false
 
 -- the counters after a call that did this (own)
 abbrev pub call_counted : Did → StackCounts → StackCounts
-call_counted d n = told_counted d.answer (events_counted d.events d.outcomes n)
+call_counted d n =
+    told_counted d.answer (events_counted (is_moving d.answer) d.events d.outcomes n)
 
 -- the counters after these calls of a stack (own)
 abbrev pub counts_after : StackState → List Call → StackCounts → StackCounts

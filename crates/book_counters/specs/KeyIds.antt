@@ -1,5 +1,5 @@
 -- The key ids that a connection sent and heard last (own).
-use Rattle.std.specs.Prelude.{Option, Some, None, if◌then◌else◌}
+use Rattle.std.specs.Prelude.{Bool, ◌&&◌, Option, Some, None, if◌then◌else◌}
 use Rattle.book_segments.specs.Options.{AoFound, One, find_ao}
 use Rattle.book_segments.specs.Segments.{Reading, Read, Bad as Unread, reading, spell}
 use Rattle.book_endpoint.specs.declared.arrival.Arrival.{Arrival}
@@ -32,7 +32,8 @@ no_key_ids = record { sent = None; heard = None }
 abbrev pub key_ids_sent : Option KeyIds → KeyIdsSeen → KeyIdsSeen
 key_ids_sent ids seen = record seen { sent = ids }
 
--- a segment with these ids came and was answered so: where it passed the check, its ids were heard
--- (RFC 5925, section 7.5)
-abbrev pub key_ids_heard : Arrival → Option KeyIds → KeyIdsSeen → KeyIdsSeen
-key_ids_heard answer ids seen = if is_heard answer then record seen { heard = ids } else seen
+-- a segment with these ids came and was answered so: where it passed the check and moved its
+-- connection on, its ids were heard (RFC 5925, section 7.5, and own)
+abbrev pub key_ids_heard : (moved : Bool) → Arrival → Option KeyIds → KeyIdsSeen → KeyIdsSeen
+key_ids_heard moved answer ids seen =
+    if is_heard answer && moved then record seen { heard = ids } else seen

@@ -1,14 +1,16 @@
 //! Counters.
 
 /// How often things happened at a node, or at one of its connections. Each is one more for each time,
-/// up to the greatest number of 64 bits, where it stays.
+/// up to the greatest number of 64 bits, where it stays. A SYN for a pair that isn't held and that the
+/// check refuses counts by its cause, at the node alone.
 #[derive(Clone, Copy, Debug, PartialEq, Eq)]
 pub struct Counters {
     /// Segments that passed the check, whatever came of them.
     pub passed: u64,
     /// Bytes that are no datagram; of the node alone.
     pub bad: u64,
-    /// Segments whose sockets aren't those of their connection.
+    /// Segments whose sockets aren't those of their connection; at a stack there are none, since a
+    /// segment comes to the connection of its sockets.
     pub foreign: u64,
     /// Segments whose TCP checksum is wrong.
     pub checksum: u64,
@@ -34,7 +36,7 @@ pub struct Counters {
     pub bad_mac: u64,
     /// Datagrams for a pair that isn't held; of the node alone.
     pub no_connection: u64,
-    /// SYNs that knocked; of the node alone.
+    /// SYNs that passed the check and knocked; of the node alone.
     pub knocks: u64,
     /// Segments that were sent for the first time.
     pub sent: u64,

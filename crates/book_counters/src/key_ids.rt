@@ -15,7 +15,8 @@ pub struct KeyIdsSeen {
     /// Of the last segment that was sent: its own current key, and the key that it asks its peer to send
     /// with.
     pub sent: Option<KeyIds>,
-    /// Of the last segment that passed the check: the peer's current key, and the key that it asks to be
-    /// sent with.
+    /// Of the last segment that passed the check and moved the connection on, by an acknowledgement or by
+    /// what was expected: the peer's current key, and the key that it asks to be sent with. What
+    /// was taken once doesn't count when somebody sends it again, nor does a SYN alone.
     pub heard: Option<KeyIds>,
 }

@@ -1,6 +1,6 @@
 -- The calls of a stack: what each answers and leaves, and the plain events that it makes (own).
 use Rattle.std.specs.Prelude.{ℕ, nat_le, Bool, true, false, List, [], ◌∷◌, ◌++◌, length, Option}
-use Rattle.std.specs.Prelude.{Some, None, if◌then◌else◌}
+use Rattle.std.specs.Prelude.{Some, None, Ok, Err, if◌then◌else◌}
 use Rattle.book_base.specs.declared.address.Pair.{Pair}
 use Rattle.book_segments.specs.Segments.{Segment, Reading, Read, Bad as Unread, reading}
 use Rattle.book_keys.specs.declared.new_row.NewRow.{NewRow}
@@ -8,9 +8,11 @@ use Rattle.book_keys.specs.Tables.{Adding, AddedAs, adding, row_of_new, withdraw
 use Rattle.book_keys.specs.Rows.{Row}
 use Rattle.book_endpoint.specs.declared.arrival.Arrival.{Arrival}
 use Rattle.book_endpoint.specs.declared.arrival.Arrival.TheVariants.{Bad}
+use Rattle.book_endpoint.specs.declared.verdict.Verdict.{Verdict}
 use Rattle.book_endpoint.specs.States.{EndState}
 use Rattle.book_endpoint.specs.Arrivals as book
 use Rattle.book_endpoint.specs.Emissions.{Emission}
+use Rattle.book_endpoint.specs.Verdicts.{Judgement}
 use Rattle.book_cmd_node.specs.declared.node.Act.{Act}
 use Rattle.book_cmd_node.specs.declared.node.Act.TheVariants as act
 use Rattle.book_cmd_node.specs.declared.node.NodeEvent.{NodeEvent}
@@ -20,8 +22,8 @@ use Rattle.book_cmd_node.specs.NodeRuns.{InUse, NodeFull, NoConnection, NodeStep
 use Rattle.book_cmd_node.specs.NodeRuns.{most_ends, node_step}
 use Rattle.book_segments.specs.Segments.{pair_reached}
 use Rattle.book_stack.specs.declared.front.Change.{Change}
-use Rattle.book_stack.specs.Watches.{arrived, is_heard}
-use Rattle.book_stack.specs.Stacks.{StackState, forgotten, knocks, touched, watched}
+use Rattle.book_stack.specs.Watches.{arrived, is_heard, moves_on}
+use Rattle.book_stack.specs.Stacks.{StackState, asking_judged, asks, forgotten, touched, watched}
 use Rattle.book_stack.specs.Turns.{Turn, called_at, change_by, clocked, output_at}
 
 -- bytes that come at a time in milliseconds (own)
@@ -37,11 +39,15 @@ pub data Call : Type 0 where
   Add : (row : NewRow) → Call
   Withdraw : (number : ℕ) → Call
 
--- what a call answers: as a node does; a SYN asks for a connection of this pair; the next datagram
--- or none; what came of adding a row; whether there was the row to withdraw (own)
+-- what a call answers: as a node does; as a node does to a segment that moved its connection on; a
+-- SYN that passed the check asks for a connection of this pair; one was refused by the check, and
+-- no connection is there; the next datagram or none; what came of adding a row; whether there was
+-- the row to withdraw (own)
 pub data CallAnswer : Type 0 where
   Told : (outcome : NodeOutcome) → CallAnswer
+  Moves : (outcome : NodeOutcome) → CallAnswer
   Knocks : (pair : Pair) → CallAnswer
+  Refuses : (why : Verdict) → CallAnswer
   Hands : (emission : Emission) → CallAnswer
   Rests : CallAnswer
   Adds : (adding : Adding) → CallAnswer
@@ -61,6 +67,11 @@ unasked s answer = record { stack = s; events = []; outcomes = []; answer = answ
 -- a call that makes one plain event and answers as it is answered (own)
 abbrev pub asking : StackState → NodeEvent → NodeOutcome → Did
 asking s e o = record { stack = s; events = e ∷ []; outcomes = o ∷ []; answer = Told o }
+
+-- a plain answer, by whether the segment moved its connection on (own)
+abbrev pub answer_moving : Bool → NodeOutcome → CallAnswer
+answer_moving true o = Moves o
+answer_moving false o = Told o
 
 -- the stack once its node made a plain step (own)
 abbrev pub stepped : StackState → NodeStep → StackState
@@ -110,14 +121,18 @@ at_pair pair a s (Some e) = at_held pair a s
 -- the timer and the line after an end heard a segment: as before where the check refused it (own)
 abbrev pub after_segment_heard : ℕ → Pair → Arrival → Change → StackState → StackState
 after_segment_heard now pair answer c s = if is_heard answer
-    then touched pair (watched pair (arrived now answer c (s.watches pair)) s) else s
+    then touched pair (watched pair (arrived now c (s.watches pair)) s) else s
 
 -- the end of a pair hears a segment, with what it answers (RFC 9293, section 3.10.7)
 abbrev pub heard_end : Incoming → Pair → EndState → book.Arrived → StackState → Did
 heard_end coming pair e a s =
-    let c = called a.state (DatagramAnswered a.answer) in
-    asking (after_segment_heard coming.now pair a.answer (change_by e c) (called_at pair c s))
-    (event.Inject coming.bytes) (DatagramAnswered a.answer)
+    let c = called a.state (DatagramAnswered a.answer) in record {
+      stack =
+          after_segment_heard coming.now pair a.answer (change_by e c) (called_at pair c s);
+      events = event.Inject coming.bytes ∷ [];
+      outcomes = DatagramAnswered a.answer ∷ [];
+      answer = answer_moving (moves_on (change_by e c)) (DatagramAnswered a.answer);
+    }
 
 -- a segment comes to the end of a pair, where it is held (own)
 abbrev pub heard_pair : Incoming → Pair → Segment → StackState → Option EndState → Did
@@ -125,9 +140,16 @@ heard_pair coming pair d s None = asking s (event.Inject coming.bytes) NoConnect
 heard_pair coming pair d s (Some e) =
     heard_end coming pair e (book.arrive s.rows pair s.node.clock e (Read d)) s
 
--- a segment comes: it knocks, or it comes to the end of its pair (own)
+-- a segment asks for a connection: where it passes the check it knocks; else it is refused, or it
+-- comes to the end of its pair, whose connection is over (RFC 5925, section 7.5)
+abbrev pub asked_for : Incoming → Segment → StackState → Option EndState → Judgement → Did
+asked_for coming d s held (Ok p) = unasked s (Knocks (pair_reached d))
+asked_for coming d s None (Err why) = unasked s (Refuses why)
+asked_for coming d s (Some e) (Err why) = heard_pair coming (pair_reached d) d s (Some e)
+
+-- a segment comes: it asks for a connection, or it comes to the end of its pair (own)
 abbrev pub met : Incoming → Segment → StackState → Option EndState → Did
-met coming d s held = if knocks d held then unasked s (Knocks (pair_reached d))
+met coming d s held = if asks d held then asked_for coming d s held (asking_judged s d)
     else heard_pair coming (pair_reached d) d s held
 
 -- bytes come (own)

@@ -1,5 +1,5 @@
 -- The retransmission timer on a clock of milliseconds (RFC 6298, section 2).
-use Rattle.std.specs.Prelude.{ℕ, ◌+◌, ◌*◌, min, max, Some}
+use Rattle.std.specs.Prelude.{ℕ, ◌+◌, ◌*◌, min, max, Some, None}
 use Rattle.book_timers.specs.declared.timer.Timer.{Timer}
 use Rattle.book_timers.specs.declared.timer.Smoothed.{Smoothed}
 use Rattle.book_timers.specs.Timers.{bounded, smoothed_with}
@@ -18,7 +18,7 @@ abbrev pub sampled_millis : Timer → ℕ → Timer
 sampled_millis t millis = let s = smoothed_with t.smoothed (counted_millis millis) in
     record { value = value_in_millis s; smoothed = Some s }
 
--- the timer once data begins to flow after a SYN that was sent again: three seconds at least (RFC
--- 6298, section 5.7)
-abbrev pub slowed : Timer → Timer
-slowed t = record t { value = max t.value 3000 }
+-- the timer once data begins to flow after a SYN that was sent again: begun anew, with three
+-- seconds, whatever its value was (RFC 6298, section 5.7)
+abbrev pub timer_behind_lost_syn : Timer
+timer_behind_lost_syn = record { value = 3000; smoothed = None }

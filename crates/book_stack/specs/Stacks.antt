@@ -2,13 +2,14 @@
 use Rattle.std.specs.Prelude.{ℕ, ◌+◌, ◌*◌, ◌==◌, min, Bool, true, false, ◌&&◌, List, [], ◌∷◌}
 use Rattle.std.specs.Prelude.{Option, Some, None, if◌then◌else◌}
 use Rattle.book_base.specs.declared.address.Pair.{Pair}
-use Rattle.book_segments.specs.Segments.{Segment, good}
+use Rattle.book_segments.specs.Segments.{Segment, good, pair_reached}
 use Rattle.book_segments.specs.Spelling.{with_sum}
 use Rattle.book_keys.specs.Rows.{Row}
 use Rattle.book_endpoint.specs.declared.phase.Phase.{Phase}
 use Rattle.book_endpoint.specs.declared.phase.Phase.TheVariants.{TimeWait, Closed}
 use Rattle.book_endpoint.specs.States.{EndState}
 use Rattle.book_endpoint.specs.Arrivals.{syn_alone}
+use Rattle.book_endpoint.specs.Verdicts.{Judgement, judge}
 use Rattle.book_cmd_node.specs.NodeRuns.{NodeState, no_ends, same_pair}
 use Rattle.book_stack.specs.declared.alarm.Alarm.{Alarm}
 use Rattle.book_stack.specs.Alarms.{earliest, lined, with_alarm, without_alarm, without_pair}
@@ -85,9 +86,15 @@ abbrev pub is_free : Option EndState → Bool
 is_free None = true
 is_free (Some e) = is_over e.phase
 
--- a SYN whose checksum is right comes for a pair that is free (own)
-abbrev pub knocks : Segment → Option EndState → Bool
-knocks d held = syn_alone d && good d && is_free held
+-- a SYN whose checksum is right comes for a pair that is free: it asks for a connection (own)
+abbrev pub asks : Segment → Option EndState → Bool
+asks d held = syn_alone d && good d && is_free held
+
+-- the verdict on a segment that asks for a connection, of which nothing is known yet: the context
+-- of a SYN is its own number and 0 (RFC 5925, sections 5.2 and 7.5)
+abbrev pub asking_judged : StackState → Segment → Judgement
+asking_judged s d = judge s.rows (pair_reached d)
+    (record { own_isn = 0; peer_isn = None; expected = None }) s.node.clock d
 
 -- a segment as it is handed out: a checksum of 0000 as ffff, the same number in one's complement,
 -- since there are receivers that take 0000 for a wrong MAC (own)

@@ -10,14 +10,14 @@ use Rattle.book_endpoint.specs.declared.arrival.Arrival.TheVariants.{Closed as A
 use Rattle.book_endpoint.specs.declared.phase.Phase.{Phase}
 use Rattle.book_endpoint.specs.declared.phase.Phase.TheVariants.{SynSent, SynReceived, Established}
 use Rattle.book_endpoint.specs.declared.phase.Phase.TheVariants.{FinWait1, CloseWait, Closing}
-use Rattle.book_endpoint.specs.declared.phase.Phase.TheVariants.{LastAck, TimeWait}
+use Rattle.book_endpoint.specs.declared.phase.Phase.TheVariants.{LastAck, Listen, TimeWait}
 use Rattle.book_endpoint.specs.States.{EndState}
 use Rattle.book_endpoint.specs.Emissions.{unsent}
 use Rattle.book_endpoint.specs.Hearing.{segment_lifetime}
 use Rattle.book_stack.specs.declared.front.Change.{Change}
 use Rattle.book_stack.specs.declared.front.Front.{Front}
 use Rattle.book_stack.specs.declared.front.Timed.{Timed}
-use Rattle.book_stack.specs.Millis.{sampled_millis, slowed}
+use Rattle.book_stack.specs.Millis.{sampled_millis, timer_behind_lost_syn}
 
 -- what is kept of a connection beside its end (own)
 pub record ConnectionWatch : Type 0 where
@@ -25,7 +25,7 @@ pub record ConnectionWatch : Type 0 where
   pub deadline : Option ℕ  -- when the timer expires, if it runs, or when TIME-WAIT ends
   pub timed : Option Timed  -- the number that is timed, and when it was sent (section 3)
   pub syn_again : Bool  -- the SYN was sent again (section 5.7)
-  pub heard : ℕ  -- when the peer was last heard, or the end began to wait for it
+  pub heard : ℕ  -- when the peer moved the connection on, or the end began to wait for it
 
 -- the timer of a new connection (RFC 6298, section 2.1)
 abbrev pub new_connection_watch : ConnectionWatch
@@ -39,7 +39,7 @@ new_connection_watch = record {
 
 -- where an end stands (own)
 abbrev pub end_front : EndState → Front
-end_front s = record { phase = s.phase; una = s.una; next = s.next }
+end_front s = record { phase = s.phase; una = s.una; next = s.next; expected = s.expected }
 
 -- the timer runs anew, its value from now on (RFC 6298, section 5)
 abbrev pub timer_started : ℕ → ConnectionWatch → ConnectionWatch
@@ -72,11 +72,11 @@ abbrev pub is_time_wait : Phase → Bool
 is_time_wait TimeWait = true
 is_time_wait _ = false
 
--- the handshake was completed after the SYN was sent again: the value is three seconds at least
--- (RFC 6298, section 5.7)
+-- the handshake was completed after the SYN was sent again: the timer begins anew, with three
+-- seconds (RFC 6298, section 5.7)
 abbrev pub after_handshake : Change → ConnectionWatch → ConnectionWatch
 after_handshake c w = if w.syn_again && is_opening c.before.phase && not (is_opening c.after.phase)
-    then record w { timer = slowed w.timer; syn_again = false } else w
+    then record w { timer = timer_behind_lost_syn; syn_again = false } else w
 
 -- where TIME-WAIT that is entered now ends: twice 120 seconds on (RFC 9293, section 3.4.2)
 abbrev pub time_wait_end : ℕ → ℕ
@@ -87,7 +87,7 @@ abbrev pub rests_now : ℕ → Change → ConnectionWatch → ConnectionWatch
 rests_now now c w = if is_time_wait c.after.phase && not (is_time_wait c.before.phase)
     then record w { deadline = Some (time_wait_end now) } else w
 
--- the segment passed the check: its peer was heard (own)
+-- the segment passed the check (own)
 abbrev pub is_heard : Arrival → Bool
 is_heard (Bad fault) = false
 is_heard Foreign = false
@@ -96,13 +96,26 @@ is_heard AtClosed = false
 is_heard (Refused why) = false
 is_heard _ = true
 
+-- the phase is LISTEN (own)
+abbrev pub is_listening : Phase → Bool
+is_listening Listen = true
+is_listening _ = false
+
+-- a segment moved the connection on: it acknowledged a number that wasn't, or it brought the
+-- number that was expected. What was taken once moves nothing when it is sent again, whoever sends
+-- it; nor does a segment out of the window, as a keep-alive is. A SYN that is heard in LISTEN
+-- doesn't count, since its MAC would pass for any connection of its sockets (own)
+abbrev pub moves_on : Change → Bool
+moves_on c = not (is_listening c.before.phase)
+    && (nat_lt c.before.una c.after.una || nat_lt c.before.expected c.after.expected)
+
 -- a segment was heard (own)
-abbrev pub hearing : ℕ → Arrival → ConnectionWatch → ConnectionWatch
-hearing now answer w = if is_heard answer then record w { heard = now } else w
+abbrev pub hearing : ℕ → Change → ConnectionWatch → ConnectionWatch
+hearing now c w = if moves_on c then record w { heard = now } else w
 
 -- the timer after an arrival (RFC 6298, sections 3, 5.2, 5.3 and 5.7)
-abbrev pub arrived : ℕ → Arrival → Change → ConnectionWatch → ConnectionWatch
-arrived now answer c w = let v = after_handshake c (hearing now answer w) in
+abbrev pub arrived : ℕ → Change → ConnectionWatch → ConnectionWatch
+arrived now c w = let v = after_handshake c (hearing now c w) in
     rests_now now c
     (if nat_lt c.before.una c.after.una then after_acknowledgement now c.after v else v)
 
@@ -152,8 +165,9 @@ abbrev pub expired_at : ℕ → Phase → ConnectionWatch → ConnectionWatch
 expired_at now phase w = timer_started now (record w
     { timer = expired w.timer; timed = None; syn_again = w.syn_again || is_opening phase })
 
--- how long the end has waited for its peer and heard nothing, where it waits (RFC 9293, section
--- 3.9.1.1)
+-- how long the end has waited for its peer while nothing moved the connection on, where it waits:
+-- not in TIME-WAIT, nor while all that it sent is acknowledged and nothing waits to be sent, since
+-- its timer doesn't run then; so an idle connection is never silent (RFC 9293, section 3.9.1.1)
 abbrev pub silence : ℕ → Phase → ConnectionWatch → Option ℕ
 silence now phase w = if is_time_wait phase || not (is_some w.deadline) then None
     else Some (now - w.heard)

@@ -2,12 +2,14 @@
 
 use book_endpoint::Phase;
 
-/// Where an end stands, the oldest number that isn't acknowledged, and the one to send next.
+/// Where an end stands, the oldest number that isn't acknowledged, the one to send next, and the one
+/// that is expected next of the peer, 0 before any.
 #[derive(Clone, Copy, Debug, PartialEq, Eq)]
 pub struct Front {
     pub phase: Phase,
     pub una: u64,
     pub next: u64,
+    pub expected: u64,
 }
 
 /// Where an end stood before something happened to it, and after.

@@ -12,8 +12,8 @@ use Rattle.book_cmd_node.specs.NodeRuns.{Called, DatagramAnswered, NodeState, No
 use Rattle.law_node.proofs.Held.{end_with_same}
 use Rattle.law_node.proofs.Pairs.{same_pair-refl}
 use Rattle.book_stack.specs.Alarms.{lined}
-use Rattle.book_stack.specs.Calls.{Call, At, Input, Output, CallAnswer, Hands, Rests, Did, after_segment_heard, after_turn, at_pair, Incoming, bytes_received, call, handed_out, heard_pair, kept, stepped, unasked, Knocks}
-use Rattle.book_stack.specs.Stacks.{StackState, is_free, knocks, touched, watched}
+use Rattle.book_stack.specs.Calls.{Call, At, Input, Output, CallAnswer, Hands, Rests, Did, after_segment_heard, after_turn, at_pair, Incoming, bytes_received, call, handed_out, heard_pair, kept, stepped, asked_for}
+use Rattle.book_stack.specs.Stacks.{StackState, asking_judged, asks, is_free, touched, watched}
 use Rattle.book_stack.specs.Turns.{Turn, ask, asked_end, asked_first, asked_pair, called_at, change_by, clocked, output_at, passing, then_turn, turns, wake}
 use Rattle.book_stack.specs.Watches.{arrived, is_heard}
 use Rattle.law_progress.proofs.Making.{if_on}
@@ -177,7 +177,7 @@ module _ (now : ℕ) (pair : Pair) (rows : List Row) (clock : ℕ) (s : StackSta
   abbrev heard_stack : Arrived → StackState
   heard_stack a = let c = called a.state (DatagramAnswered a.answer) in after_segment_heard now pair a.answer (change_by u c) (called_at pair c s)
 
-  heard_fields : (a : Arrived) (b : Bool) → let c = called a.state (DatagramAnswered a.answer) in let t = called_at pair c s in let x = (if b then touched pair (watched pair (arrived now a.answer (change_by u c) (t.watches pair)) t) else t) in
+  heard_fields : (a : Arrived) (b : Bool) → let c = called a.state (DatagramAnswered a.answer) in let t = called_at pair c s in let x = (if b then touched pair (watched pair (arrived now (change_by u c) (t.watches pair)) t) else t) in
       (x.rows ≡ s.rows) × (x.node ≡ t.node) × (x.most ≡ s.most) × ((x.line ≡ []) ⊎ (x.line ≡ pair ∷ []))
   heard_fields a true = (refl, refl, refl, inr (touched_line pair s.most s.line h.some h.line))
   heard_fields a false = (refl, refl, refl, h.line)
@@ -187,12 +187,12 @@ module _ (now : ℕ) (pair : Pair) (rows : List Row) (clock : ℕ) (s : StackSta
   input_is bytes d reads to plain =
       let coming : Incoming = record { now = now; bytes = bytes } in
       let ends = s.node.ends in
-      let no_knock : knocks d (Some u) ≡ false = ap (λ (b : Bool). b && good d && is_free (Some u)) plain in
+      let no_knock : asks d (Some u) ≡ false = ap (λ (b : Bool). b && good d && is_free (Some u)) plain in
       ap (λ (t : Turn). (after_turn t (bytes_received coming (reading bytes))).stack) still
       ∙ ap (λ (r : Reading). (bytes_received coming r s).stack) reads
-      ∙ ap (λ (p : Pair). (let x : Did = if knocks d (held_end p ends) then unasked s (Knocks p) else heard_pair coming p d s (held_end p ends) in x.stack)) to
-      ∙ ap (λ (o : Option EndState). (let x : Did = if knocks d o then unasked s (Knocks pair) else heard_pair coming pair d s o in x.stack)) h.held
-      ∙ ap (λ (b : Bool). (let x : Did = if b then unasked s (Knocks pair) else heard_pair coming pair d s (Some u) in x.stack)) no_knock
+      ∙ ap (λ (p : Pair). (let x : Did = if asks d (held_end p ends) then asked_for coming d s (held_end p ends) (asking_judged s d) else heard_pair coming p d s (held_end p ends) in x.stack)) to
+      ∙ ap (λ (o : Option EndState). (let x : Did = if asks d o then asked_for coming d s o (asking_judged s d) else heard_pair coming pair d s o in x.stack)) h.held
+      ∙ ap (λ (b : Bool). (let x : Did = if b then asked_for coming d s (Some u) (asking_judged s d) else heard_pair coming pair d s (Some u) in x.stack)) no_knock
 
   pub input_has : (bytes : List ℕ) (d : Segment) → reading bytes ≡ Read d → pair_reached d ≡ pair → syn_alone d ≡ false → Has now pair rows clock (call (Input (record { now = now; bytes = bytes })) s).stack (arrive rows pair clock u (Read d)).state
   input_has bytes d reads to plain =

@@ -1,5 +1,5 @@
 -- While no timer has expired, a stack sends nothing again.
-use Rattle.std.proofs.Common.{◌≡◌, ℕ, zero, suc, ◌+◌, ◌/◌, ◌<◌, ◌≤◌, ◌==◌, Bool, true, false, ◌||◌, nat_le, List, [], ◌∷◌, ◌++◌, length, Option, Some, None, ◌⊎◌, inl, inr, refl, sym, ap, ◌∙◌, subst, if◌then◌else◌, arith}
+use Rattle.std.proofs.Common.{◌≡◌, ℕ, zero, suc, ◌+◌, ◌/◌, ◌<◌, ◌≤◌, ◌==◌, Bool, true, false, ◌||◌, nat_le, List, [], ◌∷◌, ◌++◌, length, Option, Some, None, Result, Ok, Err, ◌⊎◌, inl, inr, refl, sym, ap, ◌∙◌, subst, if◌then◌else◌, arith}
 use Rattle.std.specs.Prelude.{is_some}
 use Rattle.std.specs.List.{AllByRecursion}
 use Rattle.book_base.specs.declared.address.Pair.{Pair}
@@ -9,6 +9,7 @@ use Rattle.book_keys.specs.Tables.{Adding, AddedAs, adding, row_of_new, withdraw
 use Rattle.book_endpoint.specs.declared.arrival.Arrival.{Arrival}
 use Rattle.book_endpoint.specs.States.{EndState}
 use Rattle.book_endpoint.specs.Arrivals.{Arrived, arrive}
+use Rattle.book_endpoint.specs.Verdicts.{Judgement}
 use Rattle.book_cmd_node.specs.declared.node.Act.{Act}
 use Rattle.book_cmd_node.specs.declared.node.Act.TheVariants as act
 use Rattle.book_cmd_node.specs.declared.node.NodeEvent.{NodeEvent}
@@ -18,9 +19,9 @@ use Rattle.law_node.proofs.Pairs.{same_pair-refl}
 use Rattle.book_stack.specs.declared.alarm.Alarm.{Alarm}
 use Rattle.book_stack.specs.declared.front.Change.{Change}
 use Rattle.book_stack.specs.Alarms.{with_alarm}
-use Rattle.book_stack.specs.Calls.{Call, At, Input, Output, Add, Withdraw, Incoming, Did, Told, Knocks, added, after_turn, asking, at_pair, begun, bytes_received, call, heard_end, heard_pair, kept, makes_an_end, plain_step, stepped, turn_ended, unasked, withdrew}
+use Rattle.book_stack.specs.Calls.{Call, At, Input, Output, Add, Withdraw, Incoming, Did, Told, added, after_turn, asked_for, asking, at_pair, begun, bytes_received, call, heard_end, heard_pair, kept, makes_an_end, plain_step, stepped, turn_ended, unasked, withdrew}
 use Rattle.book_stack.specs.Runs.{expanded_from, stack_after}
-use Rattle.book_stack.specs.Stacks.{StackState, empty_stack, knocks, touched, watched}
+use Rattle.book_stack.specs.Stacks.{StackState, asking_judged, asks, empty_stack, touched, watched}
 use Rattle.book_stack.specs.Turns.{Turn, ask, asked_end, asked_first, asked_line, asked_pair, asked_watch, called_at, change_by, clocked, output_at, passing, spoken_by, then_turn, turns, wake, woken_first, woken_pair}
 use Rattle.book_stack.specs.Watches.{arrived, awaits, is_heard}
 use Rattle.law_stack.proofs.Called.{call_steps}
@@ -184,10 +185,10 @@ pair_did now pair a s (Some e) at none =
 
 -- ---- bytes come
 
-heard_due : (now : ℕ) (p : Pair) (answer : Arrival) (c : Change) (s : StackState) → Rings s → due now s.alarms ≡ 0 → due now (with_alarm s.most p (arrived now answer c (s.watches p)).deadline s.alarms) ≡ 0
-heard_due now p answer c s h none =
-    let w = arrived now answer c (s.watches p) in
-    let fewer = due_rung now s.most p w.deadline s.alarms (λ d is. rung d (arrived_later now answer c (s.watches p) (h.on p) d is)) in omega (arith, fewer, none)
+heard_due : (now : ℕ) (p : Pair) (c : Change) (s : StackState) → Rings s → due now s.alarms ≡ 0 → due now (with_alarm s.most p (arrived now c (s.watches p)).deadline s.alarms) ≡ 0
+heard_due now p c s h none =
+    let w = arrived now c (s.watches p) in
+    let fewer = due_rung now s.most p w.deadline s.alarms (λ d is. rung d (arrived_later now c (s.watches p) (h.on p) d is)) in omega (arith, fewer, none)
   where
     rung : (d : ℕ) → (now < d) ⊎ ((s.watches p).deadline ≡ Some d) → (now < d) ⊎ (alarm_of p s.alarms ≡ Some d)
     rung d (inl less) = inl less
@@ -195,7 +196,7 @@ heard_due now p answer c s h none =
 
 came_did : (coming : Incoming) (r : Reading) (s : StackState) → Rings s → due coming.now s.alarms ≡ 0 → FreshDid coming.now (bytes_received coming r s)
 came_did coming (Unread fault) s h none = record { once = refl; none = none }
-came_did coming (Read d) s h none = meets (knocks d (held_end (pair_reached d) s.node.ends)) (held_end (pair_reached d) s.node.ends)
+came_did coming (Read d) s h none = meets (asks d (held_end (pair_reached d) s.node.ends)) (held_end (pair_reached d) s.node.ends)
   where
     p : Pair
     p = pair_reached d
@@ -209,16 +210,21 @@ came_did coming (Read d) s h none = meets (knocks d (held_end (pair_reached d) s
         c : Change
         c = change_by e (called a.state (DatagramAnswered a.answer))
 
-        heard : (v : Bool) → due coming.now (if v then touched p (watched p (arrived coming.now a.answer c (t.watches p)) t) else t).alarms ≡ 0
-        heard true = heard_due coming.now p a.answer c s h none
+        heard : (v : Bool) → due coming.now (if v then touched p (watched p (arrived coming.now c (t.watches p)) t) else t).alarms ≡ 0
+        heard true = heard_due coming.now p c s h none
         heard false = none
 
     pair : (o : Option EndState) → FreshDid coming.now (heard_pair coming p d s o)
     pair None = record { once = refl; none = none }
     pair (Some e) = hears e (arrive s.rows p s.node.clock e (Read d))
 
-    meets : (v : Bool) (o : Option EndState) → FreshDid coming.now (if v then unasked s (Knocks p) else heard_pair coming p d s o)
-    meets true o = record { once = refl; none = none }
+    asked : (o : Option EndState) (j : Judgement) → FreshDid coming.now (asked_for coming d s o j)
+    asked o (Ok f) = record { once = refl; none = none }
+    asked None (Err why) = record { once = refl; none = none }
+    asked (Some e) (Err why) = pair (Some e)
+
+    meets : (v : Bool) (o : Option EndState) → FreshDid coming.now (if v then asked_for coming d s o (asking_judged s d) else heard_pair coming p d s o)
+    meets true o = asked o (asking_judged s d)
     meets false o = pair o
 
 input_did : (coming : Incoming) (s : StackState) → TidyRings s → due coming.now s.alarms ≡ 0 → FreshDid coming.now (after_turn (clocked coming.now s) (bytes_received coming (reading coming.bytes)))

@@ -5,12 +5,12 @@ use Rattle.book_endpoint.specs.declared.arrival.Arrival.{Arrival}
 use Rattle.book_stack.specs.declared.front.Change.{Change}
 use Rattle.book_stack.specs.declared.front.Front.{Front}
 use Rattle.book_stack.specs.declared.front.Timed.{Timed}
-use Rattle.book_stack.specs.Millis.{sampled_millis, slowed}
-use Rattle.book_stack.specs.Watches.{ConnectionWatch, after_acknowledgement, after_handshake, after_sample, arrived, hearing, is_heard, is_opening, is_time_wait, rests_now, time_wait_end, timer_started, timer_stopped}
+use Rattle.book_stack.specs.Millis.{sampled_millis, timer_behind_lost_syn}
+use Rattle.book_stack.specs.Watches.{ConnectionWatch, after_acknowledgement, after_handshake, after_sample, arrived, hearing, is_opening, is_time_wait, moves_on, rests_now, time_wait_end, timer_started, timer_stopped}
 use Rattle.law_stack.proofs.Timed.{IsOn, sampled_on}
 
-hearing_same : (now : ℕ) (answer : Arrival) (w : ConnectionWatch) → ((hearing now answer w).deadline ≡ w.deadline) × (IsOn w → IsOn (hearing now answer w))
-hearing_same now answer w = at (is_heard answer)
+hearing_same : (now : ℕ) (c : Change) (w : ConnectionWatch) → ((hearing now c w).deadline ≡ w.deadline) × (IsOn w → IsOn (hearing now c w))
+hearing_same now c w = at (moves_on c)
   where
     at : (v : Bool) → ((if v then record w { heard = now } else w).deadline ≡ w.deadline) × (IsOn w → IsOn (if v then record w { heard = now } else w))
     at true = (refl, λ h. h)
@@ -19,7 +19,7 @@ hearing_same now answer w = at (is_heard answer)
 handshake_same : (c : Change) (w : ConnectionWatch) → ((after_handshake c w).deadline ≡ w.deadline) × (IsOn w → IsOn (after_handshake c w))
 handshake_same c w = at (w.syn_again && is_opening c.before.phase && not (is_opening c.after.phase))
   where
-    at : (v : Bool) → ((if v then record w { timer = slowed w.timer; syn_again = false } else w).deadline ≡ w.deadline) × (IsOn w → IsOn (if v then record w { timer = slowed w.timer; syn_again = false } else w))
+    at : (v : Bool) → ((if v then record w { timer = timer_behind_lost_syn; syn_again = false } else w).deadline ≡ w.deadline) × (IsOn w → IsOn (if v then record w { timer = timer_behind_lost_syn; syn_again = false } else w))
     at true = (refl, λ h. omega (arith, h))
     at false = (refl, λ h. h)
 
@@ -41,21 +41,21 @@ rests_later now c old w h = at (is_time_wait c.after.phase && not (is_time_wait 
     at true d e = inl (omega (arith, some_is (time_wait_end now) d e))
     at false d e = h d e
 
-pub arrived_later : (now : ℕ) (answer : Arrival) (c : Change) (w : ConnectionWatch) → IsOn w → IsLaterOr now w (arrived now answer c w)
-arrived_later now answer c w on =
+pub arrived_later : (now : ℕ) (c : Change) (w : ConnectionWatch) → IsOn w → IsLaterOr now w (arrived now c w)
+arrived_later now c w on =
     rests_later now c w (if nat_lt c.before.una c.after.una then after_acknowledgement now c.after v else v) (at (nat_lt c.before.una c.after.una))
   where
     u : ConnectionWatch
-    u = hearing now answer w
+    u = hearing now c w
 
     v : ConnectionWatch
     v = after_handshake c u
 
     same : v.deadline ≡ w.deadline
-    same = (handshake_same c u).0 ∙ (hearing_same now answer w).0
+    same = (handshake_same c u).0 ∙ (hearing_same now c w).0
 
     v_on : IsOn v
-    v_on = (handshake_same c u).1 ((hearing_same now answer w).1 on)
+    v_on = (handshake_same c u).1 ((hearing_same now c w).1 on)
 
     back : (d : ℕ) → (now < d) ⊎ (v.deadline ≡ Some d) → (now < d) ⊎ (w.deadline ≡ Some d)
     back d (inl less) = inl less

@@ -1,5 +1,5 @@
 -- What a call does to the node of a stack.
-use Rattle.std.proofs.Common.{◌≡◌, ℕ, Bool, true, false, List, [], ◌∷◌, length, Option, Some, None, ◌<◌, refl, ap, ◌∙◌, arith}
+use Rattle.std.proofs.Common.{◌≡◌, ℕ, Bool, true, false, List, [], ◌∷◌, length, Option, Some, None, Result, Ok, Err, ◌<◌, refl, ap, ◌∙◌, arith}
 use Rattle.std.proofs.lemmas.Bool.Decides.{nat_tests}
 use Rattle.std.specs.Prelude.{not, nat_lt, nat_le, if◌then◌else◌}
 use Rattle.book_base.specs.declared.address.Pair.{Pair}
@@ -11,6 +11,7 @@ use Rattle.book_endpoint.specs.declared.arrival.Arrival.TheVariants.{Bad}
 use Rattle.book_endpoint.specs.States.{EndState, connected, listening, started, give, gives, room}
 use Rattle.book_endpoint.specs.Emissions.{emit, resend}
 use Rattle.book_endpoint.specs.Arrivals.{arrive}
+use Rattle.book_endpoint.specs.Verdicts.{Judgement}
 use Rattle.book_cmd_node.specs.declared.node.Act.{Act}
 use Rattle.book_cmd_node.specs.declared.node.Act.TheVariants as act
 use Rattle.book_cmd_node.specs.declared.node.NodeEvent.{NodeEvent}
@@ -19,9 +20,9 @@ use Rattle.book_cmd_node.specs.NodeRuns.{NodeState, NodeStep, after_call, NoConn
 use Rattle.book_segments.specs.Segments.{pair_reached}
 use Rattle.book_stack.specs.declared.front.Change.{Change}
 use Rattle.book_stack.specs.Watches.{arrived, is_heard}
-use Rattle.book_stack.specs.Stacks.{StackState, knocks, touched, watched}
+use Rattle.book_stack.specs.Stacks.{StackState, asking_judged, asks, touched, watched}
 use Rattle.book_stack.specs.Turns.{called_at, change_by, clocked}
-use Rattle.book_stack.specs.Calls.{Call, At, Input, Output, Add, Withdraw, Incoming, Did, Told, Knocks, call, kept, plain_step, stepped, at_other, at_pair, begun, asking, unasked, after_segment_heard, heard_pair, met, bytes_received, added, withdrew}
+use Rattle.book_stack.specs.Calls.{Call, At, Input, Output, Add, Withdraw, Incoming, Did, Told, Knocks, Refuses, asked_for, call, kept, plain_step, stepped, at_other, at_pair, begun, asking, unasked, after_segment_heard, heard_pair, met, bytes_received, added, withdrew}
 use Rattle.book_stack.specs.Runs.{keeps_rows}
 use Rattle.law_node.specs.Alone.{is_placed}
 use Rattle.law_stack.proofs.Turned.{Follows, follows_one, step_held, placed_one, made_placed, follows_on, clocked_plain, output_plain}
@@ -123,21 +124,21 @@ pair_plain pair a s (Some x) e = let step = plain_step s (event.On pair a) in re
 heard_node : (now : ℕ) (pair : Pair) (answer : Arrival) (c : Change) (s : StackState) → (after_segment_heard now pair answer c s).node ≡ s.node
 heard_node now pair answer c s = at (is_heard answer)
   where
-    at : (v : Bool) → (let t : StackState = if v then touched pair (watched pair (arrived now answer c (s.watches pair)) s) else s in t.node) ≡ s.node
+    at : (v : Bool) → (let t : StackState = if v then touched pair (watched pair (arrived now c (s.watches pair)) s) else s in t.node) ≡ s.node
     at true = refl
     at false = refl
 
 heard_rows : (now : ℕ) (pair : Pair) (answer : Arrival) (c : Change) (s : StackState) → (after_segment_heard now pair answer c s).rows ≡ s.rows
 heard_rows now pair answer c s = at (is_heard answer)
   where
-    at : (v : Bool) → (let t : StackState = if v then touched pair (watched pair (arrived now answer c (s.watches pair)) s) else s in t.rows) ≡ s.rows
+    at : (v : Bool) → (let t : StackState = if v then touched pair (watched pair (arrived now c (s.watches pair)) s) else s in t.rows) ≡ s.rows
     at true = refl
     at false = refl
 
 heard_most : (now : ℕ) (pair : Pair) (answer : Arrival) (c : Change) (s : StackState) → (after_segment_heard now pair answer c s).most ≡ s.most
 heard_most now pair answer c s = at (is_heard answer)
   where
-    at : (v : Bool) → (let t : StackState = if v then touched pair (watched pair (arrived now answer c (s.watches pair)) s) else s in t.most) ≡ s.most
+    at : (v : Bool) → (let t : StackState = if v then touched pair (watched pair (arrived now c (s.watches pair)) s) else s in t.most) ≡ s.most
     at true = refl
     at false = refl
 
@@ -159,10 +160,15 @@ heard_plain coming d s (Some x) r e =
 
 met_plain : (coming : Incoming) (d : Segment) (s : StackState) (o : Option EndState) → reading coming.bytes ≡ Read d → held_end (pair_reached d) s.node.ends ≡ o
     → IsPlainCall s (met coming d s o)
-met_plain coming d s o r e = at (knocks d o)
+met_plain coming d s o r e = at (asks d o)
   where
-    at : (v : Bool) → IsPlainCall s (if v then unasked s (Knocks (pair_reached d)) else heard_pair coming (pair_reached d) d s o)
-    at true = unasked_plain s (Knocks (pair_reached d))
+    asked : (o : Option EndState) (j : Judgement) → held_end (pair_reached d) s.node.ends ≡ o → IsPlainCall s (asked_for coming d s o j)
+    asked o (Ok p) e = unasked_plain s (Knocks (pair_reached d))
+    asked None (Err why) e = unasked_plain s (Refuses why)
+    asked (Some x) (Err why) e = heard_plain coming d s (Some x) r e
+
+    at : (v : Bool) → IsPlainCall s (if v then asked_for coming d s o (asking_judged s d) else heard_pair coming (pair_reached d) d s o)
+    at true = asked o (asking_judged s d) e
     at false = heard_plain coming d s o r e
 
 came_plain : (coming : Incoming) (s : StackState) (r : Reading) → reading coming.bytes ≡ r → IsPlainCall s (bytes_received coming r s)

@@ -1,5 +1,5 @@
 -- Each call leaves a stack tidy.
-use Rattle.std.proofs.Common.{◌≡◌, ℕ, ◌<◌, ◌≤◌, Bool, true, false, not, nat_lt, nat_le, List, [], ◌∷◌, ◌++◌, length, Option, Some, None, refl, sym, ap, ◌∙◌, subst, if◌then◌else◌, arith}
+use Rattle.std.proofs.Common.{◌≡◌, ℕ, ◌<◌, ◌≤◌, Bool, true, false, not, nat_lt, nat_le, List, [], ◌∷◌, ◌++◌, length, Option, Some, None, Result, Ok, Err, refl, sym, ap, ◌∙◌, subst, if◌then◌else◌, arith}
 use Rattle.std.proofs.lemmas.Bool.Decides.{nat_tests}
 use Rattle.std.specs.Prelude.{is_some}
 use Rattle.book_base.specs.declared.address.Address.{Address}
@@ -11,15 +11,16 @@ use Rattle.book_keys.specs.Tables.{Adding, AddedAs, adding, row_of_new, withdraw
 use Rattle.book_endpoint.specs.States.{EndState, default_mss, own_mss, abort, close, connected, give, gives, listening, room, started}
 use Rattle.book_endpoint.specs.Arrivals.{Arrived, arrive}
 use Rattle.book_endpoint.specs.Emissions.{Emitted, Quiet, NoKey, Emits, emit, is_silent, resend}
+use Rattle.book_endpoint.specs.Verdicts.{Judgement}
 use Rattle.book_cmd_node.specs.declared.node.Act.{Act}
 use Rattle.book_cmd_node.specs.declared.node.Act.TheVariants as act
 use Rattle.book_cmd_node.specs.declared.node.NodeEvent.TheVariants as event
 use Rattle.book_cmd_node.specs.NodeRuns.{DatagramAnswered, Called, Performed, NoRoom, ConnectionClosing, NothingToSend, InUse, NodeFull, NodeOutcome, NodeStep, NothingToResend, Transmitted, NoUsableKey, called, held_end, made_called, most_ends, new_end, node_step, on_held, on_pair, same_pair, stays, take_called, without_end}
 use Rattle.book_segments.specs.Segments.{pair_reached}
 use Rattle.book_stack.specs.Alarms.{without_alarm, without_pair}
-use Rattle.book_stack.specs.Calls.{Call, At, Input, Output, Add, Withdraw, Incoming, Did, Knocks, Told, added, asking, at_other, at_pair, begun, call, bytes_received, heard_end, heard_pair, kept, met, plain_step, stepped, unasked, withdrew}
+use Rattle.book_stack.specs.Calls.{Call, At, Input, Output, Add, Withdraw, Incoming, Did, Told, added, asked_for, asking, at_other, at_pair, begun, call, bytes_received, heard_end, heard_pair, kept, met, plain_step, stepped, unasked, withdrew}
 use Rattle.book_stack.specs.Runs.{stack_after}
-use Rattle.book_stack.specs.Stacks.{StackState, empty_stack, knocks, touched, watched}
+use Rattle.book_stack.specs.Stacks.{StackState, asking_judged, asks, empty_stack, touched, watched}
 use Rattle.book_stack.specs.Turns.{called_at, change_by, clocked}
 use Rattle.book_stack.specs.Watches.{ConnectionWatch, arrived, is_heard, new_connection_watch}
 use Rattle.law_node.proofs.Held.{held, end_pushed_same, end_with_same}
@@ -159,9 +160,9 @@ heard_tidy coming p d e s was h = at (is_heard a.answer) refl
     c = called a.state (DatagramAnswered a.answer)
 
     at : (v : Bool) → is_heard a.answer ≡ v
-        → Tidy (if v then touched p (watched p (arrived coming.now a.answer (change_by e c) (s.watches p)) (called_at p c s)) else called_at p c s)
+        → Tidy (if v then touched p (watched p (arrived coming.now (change_by e c) (s.watches p)) (called_at p c s)) else called_at p c s)
     at true is =
-        let w = arrived coming.now a.answer (change_by e c) (s.watches p) in
+        let w = arrived coming.now (change_by e c) (s.watches p) in
         let well = arrive_well s.rows p s.node.clock e d (h.ends.speaks p e was) in
         touched_tidy p (watched p w (called_at p c s)) (ap is_some (end_with_same p c.state e s.node.ends was)) (watched_tidy p w (called_at p c s) (called_tidy p e c s was well.speaks h))
     at false is =
@@ -169,14 +170,19 @@ heard_tidy coming p d e s was h = at (is_heard a.answer) refl
         subst (λ (x : EndState). Tidy (called_at p (called x (DatagramAnswered a.answer)) s)) (sym (well.unheard is)) (same_tidy p e (DatagramAnswered a.answer) s was h)
 
 met_tidy : (coming : Incoming) (d : Segment) (s : StackState) (o : Option EndState) → held_end (pair_reached d) s.node.ends ≡ o → Tidy s → Tidy (met coming d s o).stack
-met_tidy coming d s o is h = at (knocks d o)
+met_tidy coming d s o is h = at (asks d o)
   where
     pair : (o : Option EndState) → held_end (pair_reached d) s.node.ends ≡ o → Tidy (heard_pair coming (pair_reached d) d s o).stack
     pair None is = h
     pair (Some e) is = heard_tidy coming (pair_reached d) d e s is h
 
-    at : (v : Bool) → Tidy (let x : Did = if v then unasked s (Knocks (pair_reached d)) else heard_pair coming (pair_reached d) d s o in x.stack)
-    at true = h
+    asked : (o : Option EndState) (j : Judgement) → held_end (pair_reached d) s.node.ends ≡ o → Tidy (asked_for coming d s o j).stack
+    asked o (Ok p) is = h
+    asked None (Err why) is = h
+    asked (Some e) (Err why) is = pair (Some e) is
+
+    at : (v : Bool) → Tidy (let x : Did = if v then asked_for coming d s o (asking_judged s d) else heard_pair coming (pair_reached d) d s o in x.stack)
+    at true = asked o (asking_judged s d) is
     at false = pair o is
 
 came_tidy : (coming : Incoming) (r : Reading) (s : StackState) → Tidy s → Tidy (bytes_received coming r s).stack

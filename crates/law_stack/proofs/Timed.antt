@@ -1,5 +1,5 @@
 -- The alarms of each stack are the deadlines of its timers, the earliest first.
-use Rattle.std.proofs.Common.{◌≡◌, ℕ, zero, suc, ◌+◌, ◌-◌, ◌*◌, ◌/◌, ◌<◌, ◌≤◌, ◌==◌, Bool, true, false, not, ◌&&◌, nat_lt, nat_le, List, [], ◌∷◌, ◌++◌, length, Option, Some, None, refl, sym, ap, ◌∙◌, ◌⊎◌, inl, inr, subst, if◌then◌else◌, arith}
+use Rattle.std.proofs.Common.{◌≡◌, ℕ, zero, suc, ◌+◌, ◌-◌, ◌*◌, ◌/◌, ◌<◌, ◌≤◌, ◌==◌, Bool, true, false, not, ◌&&◌, nat_lt, nat_le, List, [], ◌∷◌, ◌++◌, length, Option, Some, None, Result, Ok, Err, refl, sym, ap, ◌∙◌, ◌⊎◌, inl, inr, subst, if◌then◌else◌, arith}
 use Rattle.std.proofs.lemmas.Bool.Decides.{nat_tests}
 use Rattle.std.specs.Prelude.{is_some, min, option_map}
 use Rattle.book_base.specs.declared.address.Pair.{Pair}
@@ -12,6 +12,7 @@ use Rattle.book_endpoint.specs.declared.phase.Phase.{Phase}
 use Rattle.book_endpoint.specs.States.{EndState, abort, close, offered, connected, listening, started, tick}
 use Rattle.book_endpoint.specs.Arrivals.{arrive}
 use Rattle.book_endpoint.specs.Emissions.{emit, resend}
+use Rattle.book_endpoint.specs.Verdicts.{Judgement}
 use Rattle.book_cmd_node.specs.declared.node.Act.{Act}
 use Rattle.book_cmd_node.specs.declared.node.Act.TheVariants as act
 use Rattle.book_cmd_node.specs.declared.node.NodeEvent.TheVariants as event
@@ -22,12 +23,12 @@ use Rattle.book_stack.specs.declared.front.Change.{Change}
 use Rattle.book_stack.specs.declared.front.Front.{Front}
 use Rattle.book_stack.specs.declared.front.Timed.{Timed}
 use Rattle.book_stack.specs.Alarms.{stands_in, with_alarm, without_alarm}
-use Rattle.book_stack.specs.Calls.{Call, At, Input, Output, Add, Withdraw, Incoming, Did, Knocks, Told, added, asking, at_other, at_pair, begun, call, bytes_received, after_segment_heard, heard_pair, kept, met, plain_step, stepped, unasked, withdrew}
+use Rattle.book_stack.specs.Calls.{Call, At, Input, Output, Add, Withdraw, Incoming, Did, Told, added, asked_for, asking, at_other, at_pair, begun, call, bytes_received, after_segment_heard, heard_pair, kept, met, plain_step, stepped, unasked, withdrew}
 use Rattle.book_stack.specs.Runs.{stack_after}
-use Rattle.book_stack.specs.Stacks.{StackState, empty_stack, forgotten, knocks, touched, watched}
+use Rattle.book_stack.specs.Stacks.{StackState, asking_judged, asks, empty_stack, forgotten, touched, watched}
 use Rattle.book_stack.specs.Turns.{Turn, ask, asked_end, asked_first, asked_line, asked_pair, asked_watch, called_at, change_by, clocked, output_at, passing, repeated_by, spoken_by, then_turn, turns, wake, woken_end, woken_first, woken_pair, woken_watch}
-use Rattle.book_stack.specs.Watches.{ConnectionWatch, after_acknowledgement, arrived, at_rest, awaits, hearing, is_heard, is_opening, is_time_wait, new_connection_watch, after_handshake, rests_now, running, after_sample, after_sending, timer_started, timer_stopped, time_wait_end, timing}
-use Rattle.book_stack.specs.Millis.{sampled_millis, slowed}
+use Rattle.book_stack.specs.Watches.{ConnectionWatch, after_acknowledgement, arrived, at_rest, awaits, hearing, is_heard, is_opening, is_time_wait, moves_on, new_connection_watch, after_handshake, rests_now, running, after_sample, after_sending, timer_started, timer_stopped, time_wait_end, timing}
+use Rattle.book_stack.specs.Millis.{sampled_millis, timer_behind_lost_syn}
 use Rattle.law_node.proofs.Held.{held, end_ticked, end_with_same}
 use Rattle.law_node.proofs.Pairs.{same_pair_is, same_pair-refl}
 use Rattle.law_stack.proofs.Called.{call_steps}
@@ -58,8 +59,8 @@ acknowledged_on now f w h = at (nat_lt f.una f.next)
     at true = sampled_on now f w w.timed h
     at false = sampled_on now f w w.timed h
 
-hearing_on : (now : ℕ) (answer : Arrival) (w : ConnectionWatch) → IsOn w → IsOn (hearing now answer w)
-hearing_on now answer w h = at (is_heard answer)
+hearing_on : (now : ℕ) (c : Change) (w : ConnectionWatch) → IsOn w → IsOn (hearing now c w)
+hearing_on now c w h = at (moves_on c)
   where
     at : (v : Bool) → IsOn (if v then record w { heard = now } else w)
     at true = h
@@ -68,7 +69,7 @@ hearing_on now answer w h = at (is_heard answer)
 opened_on : (c : Change) (w : ConnectionWatch) → IsOn w → IsOn (after_handshake c w)
 opened_on c w h = at (w.syn_again && is_opening c.before.phase && not (is_opening c.after.phase))
   where
-    at : (v : Bool) → IsOn (if v then record w { timer = slowed w.timer; syn_again = false } else w)
+    at : (v : Bool) → IsOn (if v then record w { timer = timer_behind_lost_syn; syn_again = false } else w)
     at true = omega (arith, h)
     at false = h
 
@@ -79,16 +80,16 @@ rests_on now c w h = at (is_time_wait c.after.phase && not (is_time_wait c.befor
     at true = h
     at false = h
 
-arrived_on : (now : ℕ) (answer : Arrival) (c : Change) (w : ConnectionWatch) → IsOn w → IsOn (arrived now answer c w)
-arrived_on now answer c w h =
-    let v = after_handshake c (hearing now answer w) in
+arrived_on : (now : ℕ) (c : Change) (w : ConnectionWatch) → IsOn w → IsOn (arrived now c w)
+arrived_on now c w h =
+    let v = after_handshake c (hearing now c w) in
     rests_on now c (if nat_lt c.before.una c.after.una then after_acknowledgement now c.after v else v) (at (nat_lt c.before.una c.after.una))
   where
-    before : IsOn (after_handshake c (hearing now answer w))
-    before = opened_on c (hearing now answer w) (hearing_on now answer w h)
+    before : IsOn (after_handshake c (hearing now c w))
+    before = opened_on c (hearing now c w) (hearing_on now c w h)
 
-    at : (b : Bool) → IsOn (if b then after_acknowledgement now c.after (after_handshake c (hearing now answer w)) else after_handshake c (hearing now answer w))
-    at true = acknowledged_on now c.after (after_handshake c (hearing now answer w)) before
+    at : (b : Bool) → IsOn (if b then after_acknowledgement now c.after (after_handshake c (hearing now c w)) else after_handshake c (hearing now c w))
+    at true = acknowledged_on now c.after (after_handshake c (hearing now c w)) before
     at false = before
 
 running_on : (now : ℕ) (w : ConnectionWatch) (o : Option ℕ) → IsOn w → IsOn (running now w o)
@@ -434,14 +435,14 @@ heard_rings now p answer e c s was few h = at (is_heard answer)
     t = called_at p c s
 
     w : ConnectionWatch
-    w = arrived now answer (change_by e c) (s.watches p)
+    w = arrived now (change_by e c) (s.watches p)
 
     at : (v : Bool) → Rings (if v then touched p (watched p w t) else t)
-    at true = touched_rings p (watched p w t) (watched_rings p w t (held_now p e c s was) (omega (arith, length_with p c.state s.node.ends, few)) (arrived_on now answer (change_by e c) (s.watches p) (h.on p)) (weaker (same_pair p) t (called_rings nobody p e c s was h)))
+    at true = touched_rings p (watched p w t) (watched_rings p w t (held_now p e c s was) (omega (arith, length_with p c.state s.node.ends, few)) (arrived_on now (change_by e c) (s.watches p) (h.on p)) (weaker (same_pair p) t (called_rings nobody p e c s was h)))
     at false = called_rings nobody p e c s was h
 
 met_rings : (coming : Incoming) (d : Segment) (s : StackState) (o : Option EndState) → held_end (pair_reached d) s.node.ends ≡ o → length s.node.ends ≤ s.most → Rings s → Rings (met coming d s o).stack
-met_rings coming d s o is few h = at (knocks d o)
+met_rings coming d s o is few h = at (asks d o)
   where
     pair : (o : Option EndState) → held_end (pair_reached d) s.node.ends ≡ o → Rings (heard_pair coming (pair_reached d) d s o).stack
     pair None is = h
@@ -449,8 +450,13 @@ met_rings coming d s o is few h = at (knocks d o)
         let a = arrive s.rows (pair_reached d) s.node.clock e (Read d) in
         heard_rings coming.now (pair_reached d) a.answer e (called a.state (DatagramAnswered a.answer)) s is few h
 
-    at : (v : Bool) → Rings (let x : Did = if v then unasked s (Knocks (pair_reached d)) else heard_pair coming (pair_reached d) d s o in x.stack)
-    at true = h
+    asked : (o : Option EndState) (j : Judgement) → held_end (pair_reached d) s.node.ends ≡ o → Rings (asked_for coming d s o j).stack
+    asked o (Ok p) is = h
+    asked None (Err why) is = h
+    asked (Some e) (Err why) is = pair (Some e) is
+
+    at : (v : Bool) → Rings (let x : Did = if v then asked_for coming d s o (asking_judged s d) else heard_pair coming (pair_reached d) d s o in x.stack)
+    at true = asked o (asking_judged s d) is
     at false = pair o is
 
 came_rings : (coming : Incoming) (r : Reading) (s : StackState) → length s.node.ends ≤ s.most → Rings s → Rings (bytes_received coming r s).stack

@@ -1,4 +1,5 @@
 mod EndLaws
 mod FitLaws
+mod JudgedLaws
 mod RowLaws
 mod SpeakLaws

@@ -62,9 +62,9 @@ given_called s piece r e = given_if (not (gives s)) (nat_lt (room s) (length pie
 
 -- ---- what is told
 
-bytes_of : (before after : List ℕ) (m : Made) (x : BookEmission) → IsMade before after m x → take m.length after ≡ spell x.segment
+bytes_of : (before after : List ℕ) (m : Made) (x : BookEmission) → IsMade before after m x → (take m.length after ≡ spell x.segment) × (m.length ≡ length (spell x.segment))
 bytes_of before after m x h =
-    ap (take m.length) h.written.bytes ∙ ap (λ n. take n (spell x.segment ++ drop m.length before)) h.written.long ∙ take-append_seam (spell x.segment) (drop m.length before)
+    (ap (take m.length) h.written.bytes ∙ ap (λ n. take n (spell x.segment ++ drop m.length before)) h.written.long ∙ take-append_seam (spell x.segment) (drop m.length before), h.written.long)
 
 module _ (s : EndState) (e f : Endpoint) (before after : List ℕ) (b : Emitted) (told : Spoken) where
   pub speaks_of : (a : Emission) → EmitsAs s e before after a b → (Stands e (state_after s b) → Stands f (state_after s b))

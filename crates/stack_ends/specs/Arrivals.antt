@@ -1,10 +1,12 @@
 -- A datagram comes to the ends of a stack (own).
-use Rattle.std.specs.Prelude.{◌≡◌, List, Option, Some, None}
+use Rattle.std.specs.Prelude.{◌≡◌, ℕ, List, Option, Some, None, Result, Ok, Err}
 use Rattle.book_base.specs.declared.address.Pair.{Pair}
 use Rattle.book_segments.specs.Segments.{Segment, Reading, Read, Bad as Unread}
 use Rattle.book_keys.specs.Rows.{Row}
 use Rattle.book_endpoint.specs.States.{EndState}
 use Rattle.book_endpoint.specs.Arrivals.{arrive}
+use Rattle.book_endpoint.specs.Verdicts.{Finding, Judgement, judge}
+use Rattle.book_endpoint.specs.declared.verdict.Verdict.{Verdict}
 use Rattle.book_cmd_node.specs.NodeRuns.{NodeState, DatagramAnswered, after_call, called, held_end}
 use Rattle.book_segments.specs.Segments.{pair_reached}
 use Rattle.node_ends.specs.declared.answer.NodeArrival.{NodeArrival}
@@ -26,6 +28,16 @@ MeetsPair k rows n d pair told (Some s) = let a = arrive rows pair n.clock s (Re
 -- a segment comes to the end of its pair (own)
 abbrev pub MeetsRead : Ends → List Row → NodeState → Segment → NodeArrival → Option EndState → Type 0
 MeetsRead k rows n d told held = MeetsPair k rows n d (pair_reached d) told held
+
+-- what the check answers to a SYN is that judgement (own)
+abbrev pub IsJudged : Result (Unit {0}) Verdict → Judgement → Type 0
+IsJudged (Ok done) j = (f : Finding) × (j ≡ Ok f)
+IsJudged (Err why) j = j ≡ Err why
+
+-- the judgement of a SYN for a connection of which nothing is known yet (RFC 5925, section 7.5)
+abbrev pub syn_judged : List Row → Pair → ℕ → Segment → Judgement
+syn_judged rows pair now d =
+    judge rows pair (record { own_isn = 0; peer_isn = None; expected = None }) now d
 
 -- bytes come (own)
 abbrev pub Meets : Ends → List Row → NodeState → NodeArrival → Reading → Type 0

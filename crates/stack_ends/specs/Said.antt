@@ -1,5 +1,5 @@
 -- What an end says that is asked for a segment (own).
-use Rattle.std.specs.Prelude.{◌≡◌, ℕ, List, Option, Some, None, ⊤, take}
+use Rattle.std.specs.Prelude.{◌≡◌, ℕ, List, Option, Some, None, ⊤, length, take}
 use Rattle.book_segments.specs.Segments.{spell}
 use Rattle.book_endpoint.specs.States.{EndState}
 use Rattle.book_cmd_node.specs.NodeRuns as node
@@ -27,9 +27,10 @@ said_again (resents.Segment m) = says.Segment m.length
 said_again resents.NoKey = says.NoKey
 said_again resents.Nothing = says.Nothing
 
--- what is said is that answer, and the segment stands in front of the buffer (own)
+-- what is said is that answer, and the segment, of this length, stands in front of the buffer (own)
 abbrev pub SaysAs : List ℕ → Says → node.NodeOutcome → Type 0
-SaysAs room (says.Segment n) (node.Transmitted x) = take n room ≡ spell x.segment
+SaysAs room (says.Segment n) (node.Transmitted x) =
+    (take n room ≡ spell x.segment) × (n ≡ length (spell x.segment))
 SaysAs room says.NoKey node.NoUsableKey = ⊤
 SaysAs room says.Nothing node.NothingToSend = ⊤
 SaysAs room says.Nothing node.NothingToResend = ⊤

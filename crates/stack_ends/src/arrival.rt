@@ -1,13 +1,15 @@
 //! A datagram comes.
-ghost use Rattle.std.specs.Prelude.{◌≡◌, ◌≤◌, ◌+◌, List};
+ghost use Rattle.std.specs.Prelude.{◌≡◌, ◌≤◌, ◌+◌, List, true};
 ghost use Rattle.book_keys.specs.Rows.{Row};
-ghost use Rattle.book_segments.specs.Segments.{Read};
+ghost use Rattle.book_segments.specs.Segments.{Read, SYN, has};
 ghost use Rattle.book_cmd_node.specs.NodeRuns.{NodeState};
-ghost use Rattle.stack_ends.specs.Arrivals.{Meets};
+ghost use Rattle.stack_ends.specs.Arrivals.{IsJudged, Meets, syn_judged};
 ghost use Rattle.stack_ends.specs.Stands.{Stands, most_of};
 
 use crate::ends::Ends;
 use ao_base::Steps;
+use ao_check::{Verdict, check_syn};
+use book_base::Pair;
 use node_ends::NodeArrival;
 use std::sync::ledger::Ledger;
 use tcp_segment::Datagram;
@@ -28,5 +30,26 @@ impl Ends {
     {
         self.node
             .hear_datagram(&self.table, self.clock, datagram, steps)
+    }
+
+    /// Whether a SYN for the pair passes the check as one for a connection of which nothing is known yet,
+    /// or the first refusal that holds (RFC 5925, section 7.5). At most one step is counted.
+    pub fn check_syn<L: Ledger>(
+        &self,
+        pair: &Pair,
+        datagram: &Datagram<'_>,
+        steps: &mut Steps<L>,
+    ) -> Result<(), Verdict>
+        requires syn { has SYN datagram.now ≡ true }
+        requires source { datagram.now.source ≡ pair.now.remote }
+        requires destination { datagram.now.destination ≡ pair.now.local }
+        ensures judged { (rows : List Row) (n : NodeState) → Stands self.now rows n
+            → IsJudged result (syn_judged rows pair.now n.clock datagram.now) }
+        ensures steps { steps.new ≤ steps.old + 1 }
+    {
+        match check_syn(pair, 0, &self.table, self.clock, datagram, steps) {
+            Ok(_) => Ok(()),
+            Err(why) => Err(why),
+        }
     }
 }

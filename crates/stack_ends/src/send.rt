@@ -6,6 +6,7 @@ ghost use Rattle.book_endpoint.specs.Emissions.{unsent};
 ghost use Rattle.book_cmd_node.specs.declared.node.Act.TheVariants as act;
 ghost use Rattle.node_ends.specs.Calls.{act_on};
 ghost use Rattle.tcp_endpoint.specs.Ends.{Stands, FitsEnd, pair_at_end};
+ghost use Rattle.tcp_endpoint.specs.Numbers.{expected_in};
 ghost use Rattle.book_stack.specs.Watches.{awaits, end_front};
 ghost use Rattle.stack_ends.specs.Said.{Leaves, Speaks, said, said_again};
 
@@ -14,7 +15,7 @@ use book_endpoint::Phase;
 use book_stack::{Change, Front};
 use key_table::Table;
 use std::sync::ledger::Ledger;
-use tcp_endpoint::{Emission, Endpoint, GiveAnswer, Resent};
+use tcp_endpoint::{Emission, Endpoint, GiveAnswer, Received, Resent};
 
 /// What an end answered that was asked for a segment.
 #[derive(Clone, Copy, Debug, PartialEq, Eq)]
@@ -36,6 +37,16 @@ pub struct Spoken {
     pub waits: bool,
 }
 
+/// The number that is expected next, 0 before any.
+fn expected_in(received: &Option<Received>) -> u64
+    ensures { result ≡ expected_in received.now }
+{
+    match received {
+        None => 0,
+        Some(received) => received.expected.value(),
+    }
+}
+
 /// Where an end stands.
 pub(crate) fn front_of(end: &Endpoint) -> Front
     ensures { (s : EndState) → Stands end.now s → result ≡ end_front s }
@@ -44,6 +55,7 @@ pub(crate) fn front_of(end: &Endpoint) -> Front
         phase: end.phase(),
         una: end.una(),
         next: end.next(),
+        expected: expected_in(&end.sequence().received),
     }
 }
 

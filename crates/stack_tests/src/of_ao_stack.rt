@@ -3,10 +3,11 @@ ghost use Rattle.std.specs.Prelude.{◌≤◌};
 ghost use Rattle.stack_timers.specs.Watches.{latest};
 
 use crate::peers::{
-    client, client_pair, deliver, drain, is_closed, next_moment, output, server, server_pair,
+    client, client_pair, deliver, drain, is_closed, next_moment, output, serve, server, server_pair,
 };
 use crate::way::{Way, later};
 use ao_stack::{Heard, Stack};
+use book_endpoint::Verdict;
 use std::alloc::{AllocError, Global};
 use std::test::Fail;
 use tcp_endpoint::GiveAnswer;
@@ -169,6 +170,83 @@ fn a_lost_syn_is_sent_again(rt: HostRuntime) -> Result<(), Fail> {
     Ok(())
 }
 
+/// The server's answer to a datagram from which a connection begins.
+fn answer_to(
+    alloc: Global,
+    server: &mut Stack,
+    now: u64,
+    room: &mut [u8; 1500],
+    length: usize,
+) -> Result<usize, Fail>
+    requires { now ≤ latest }
+{
+    match room.get(..length) {
+        None => return Err(Fail::from("no datagram")),
+        Some(bytes) => serve(alloc, server, now, bytes)?,
+    }
+    match output(server, now, room) {
+        None => Err(Fail::from("no answer")),
+        Some(length) => Ok(length),
+    }
+}
+
+/// What stands in front of the buffer comes to the client.
+fn hear(client: &mut Stack, now: u64, room: &[u8; 1500], length: usize)
+    requires { now ≤ latest }
+{
+    match room.get(..length) {
+        None => {}
+        Some(bytes) => {
+            let _heard = client.input(now, bytes);
+        }
+    }
+}
+
+#[test]
+fn a_lost_syn_makes_three_seconds(rt: HostRuntime) -> Result<(), Fail> {
+    let mut client = client(rt.alloc())?;
+    let mut server = server(rt.alloc())?;
+    let mut room = [0; 1500];
+    for lost in [0, 1000, 3000, 7000] {
+        assert!(rt; is_due(&mut client, later(BEGIN, lost), &mut room));
+    }
+    let now = later(BEGIN, 15_000);
+    let syn = output(&mut client, now, &mut room).ok_or("no SYN")?;
+    let answer = answer_to(rt.alloc(), &mut server, now, &mut room, syn)?;
+    hear(&mut client, now, &room, answer);
+    assert!(rt; is_given(&mut client, b"data"));
+    assert!(rt; is_due(&mut client, now, &mut room));
+    assert!(rt; !is_due(&mut client, now, &mut room));
+    assert!(rt; client.next_deadline() == Some(BEGIN + 18_000));
+    Ok(())
+}
+
+/// The segment with a window of one byte less, and its checksum right again.
+fn with_less_window(room: &[u8; 1500]) -> [u8; 1500] {
+    let mut altered = *room;
+    altered[35] = altered[35].wrapping_sub(1);
+    let sum = u16::from_be_bytes([altered[36], altered[37]]);
+    let [high, low] = if sum == 0xffff {
+        [0, 1]
+    } else {
+        sum.wrapping_add(1).to_be_bytes()
+    };
+    altered[36] = high;
+    altered[37] = low;
+    altered
+}
+
+/// Whether what stands in front of the buffer is refused for its MAC.
+fn is_refused(stack: &mut Stack, room: &[u8; 1500], length: usize) -> bool {
+    match room.get(..length) {
+        None => false,
+        Some(bytes) => matches!(
+            stack.input(later(BEGIN, 0), bytes),
+            Heard::Refused(Verdict::BadMac)
+        ),
+    }
+}
+
 /// Whether what stands in front of the buffer knocks for the server's pair.
 fn is_knock(stack: &mut Stack, room: &[u8; 1500], length: usize) -> bool {
     match room.get(..length) {
@@ -185,6 +263,8 @@ fn a_syn_knocks_until_a_connection_listens(rt: HostRuntime) -> Result<(), Fail> 
     let mut server = server(rt.alloc())?;
     let mut room = [0; 1500];
     let length = output(&mut client, later(BEGIN, 0), &mut room).ok_or("no SYN")?;
+    let altered = with_less_window(&room);
+    assert!(rt; is_refused(&mut server, &altered, length));
     assert!(rt; is_knock(&mut server, &room, length));
     assert!(rt; server.front(&server_pair()).is_none());
     assert!(rt; is_knock(&mut server, &room, length));

@@ -139,6 +139,8 @@ pub(crate) fn serve(alloc: Global, stack: &mut Stack, now: u64, bytes: &[u8]) ->
 {
     match input(stack, now, bytes) {
         Heard::Told(_) => Ok(()),
+        Heard::Moved(_) => Ok(()),
+        Heard::Refused(_) => Err(Fail::from("a SYN is refused")),
         Heard::Knocks(_) => {
             if !accept(alloc, stack) {
                 return Err(Fail::from("no connection listens"));

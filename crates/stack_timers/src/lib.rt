@@ -9,5 +9,5 @@ mod watches;
 
 pub use alarms::Alarms;
 pub use line::Line;
-pub use watch::{Watch, is_heard};
+pub use watch::{Watch, is_heard, moves_on};
 pub use watches::Watches;

@@ -37,6 +37,22 @@ fn is_time_wait(phase: Phase) -> bool
     matches!(phase, Phase::TimeWait)
 }
 
+/// Whether the phase is LISTEN.
+fn is_listening(phase: Phase) -> bool
+    ensures { result ≡ book.is_listening phase }
+{
+    matches!(phase, Phase::Listen)
+}
+
+/// Whether a segment moved the connection on: it acknowledged a number that wasn't, or it brought the
+/// number that was expected; never in LISTEN.
+pub fn moves_on(change: Change) -> bool
+    ensures { result ≡ book.moves_on change }
+{
+    !is_listening(change.before.phase)
+        && (change.before.una < change.after.una || change.before.expected < change.after.expected)
+}
+
 /// Whether a segment with this answer passed the check.
 pub fn is_heard(arrival: Arrival) -> bool
     ensures { result ≡ book.is_heard arrival }
@@ -117,11 +133,13 @@ impl Watch {
         }
     }
 
-    /// Data begins to flow after a SYN that was sent again (RFC 6298, section 5.7).
+    /// Data begins to flow after a SYN that was sent again: the timer begins anew, with three seconds (RFC
+    /// 6298, section 5.7).
     fn open(&mut self, change: Change)
         ensures { seen self.new ≡ book.after_handshake change (seen self.old) }
     {
         if self.syn_again && is_opening(change.before.phase) && !is_opening(change.after.phase) {
+            self.timer = Rto::new();
             self.timer.slow();
             self.syn_again = false;
         }
@@ -137,12 +155,12 @@ impl Watch {
         }
     }
 
-    /// A segment arrived, with this answer.
-    pub fn arrive(&mut self, now: u64, arrival: Arrival, change: Change)
+    /// A segment arrived that passed the check.
+    pub fn arrive(&mut self, now: u64, change: Change)
         requires { now ≤ latest }
-        ensures { seen self.new ≡ book.arrived now arrival change (seen self.old) }
+        ensures { seen self.new ≡ book.arrived now change (seen self.old) }
     {
-        if is_heard(arrival) {
+        if moves_on(change) {
             self.heard = now;
         }
         self.open(change);
@@ -203,7 +221,8 @@ impl Watch {
         self.start(now);
     }
 
-    /// Whether an end in this phase has waited for its peer longer than the user timeout.
+    /// Whether an end in this phase has waited for its peer longer than the user timeout, and nothing
+    /// moved the connection on meanwhile.
     pub fn is_overdue(&self, now: u64, phase: Phase) -> bool
         ensures { result ≡ book.is_overdue (book.silence now phase (seen self.now)) }
     {

@@ -1,7 +1,7 @@
 use Rattle.std.proofs.Common.{◌≡◌, sym, ap, ◌∙◌, subst}
 use Rattle.book_base.specs.declared.address.Pair.{Pair}
 use Rattle.book_base.specs.declared.address.Socket.{Socket}
-use Rattle.book_segments.specs.Segments.{Reading, Read, Bad, pair_reached}
+use Rattle.book_segments.specs.Segments.{Reading, Read, Bad}
 use Rattle.book_stack.specs.Calls.{Incoming}
 use Rattle.book_stack.specs.Turns.{clocked}
 use Rattle.node_ends.specs.declared.answer.NodeArrival.TheVariants as arrivals
@@ -18,16 +18,16 @@ returns-in-Err-clause-told c s S =
 pub returns-in-Err-clause-passed : goal.returns-in-Err-clause-passed
 returns-in-Err-clause-passed c s S = tt
 
+pub meet-requires-clause-reached : goal.meet-requires-clause-reached
+meet-requires-clause-reached c =
+    ap (λ (x : Socket). let k : Pair = record { local = x; remote = c.source.result } in k) c.destination.ensures.value
+    ∙ ap (λ (x : Socket). let k : Pair = record { local = c.in-Ok.datagram.destination; remote = x } in k) c.source.ensures.value
+
 pub returns-in-Ok-clause-told : goal.returns-in-Ok-clause-told
 returns-in-Ok-clause-told c s S =
-    let d = c.in-Ok.datagram in
-    let q : Pair = record { local = c.destination.result; remote = c.source.result } in
-    let seen : q ≡ pair_reached d =
-    ap (λ (x : Socket). let k : Pair = record { local = x; remote = c.source.result } in k) c.destination.ensures.value
-    ∙ ap (λ (x : Socket). let k : Pair = record { local = d.destination; remote = x } in k) c.source.ensures.value in
     let coming : Incoming = record { now = c.args.now; bytes = c.args.bytes.now } in
     let came = c.in-Ok.ensures.read in
-    inputs _ coming s (Read d) c.meet.result came (c.meet.ensures.told _ coming.bytes (c.set_clock.ensures s S) came seen c.asks-asks.ensures)
+    inputs _ coming s (Read c.in-Ok.datagram) c.meet.result came (c.meet.ensures.told _ coming.bytes (c.set_clock.ensures s S) came)
 
 pub returns-in-Ok-clause-passed : goal.returns-in-Ok-clause-passed
 returns-in-Ok-clause-passed c s S =

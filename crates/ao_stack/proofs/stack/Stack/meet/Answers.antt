@@ -1,16 +1,35 @@
-use Rattle.std.proofs.Common.{sym, ◌∙◌}
+use Rattle.std.proofs.Common.{sym, ◌∙◌, Ok, Err}
 use Rattle.book_cmd_node.specs.NodeRuns.{held_end}
 use Rattle.book_segments.specs.Segments.{pair_reached}
-use Rattle.ao_stack.proofs.ArriveLaws.{front_at, met_else, met_knocks}
+use Rattle.book_stack.specs.Calls.{Incoming}
+use Rattle.ao_stack.specs.declared.input.Heard.TheVariants as heards
+use Rattle.ao_stack.proofs.ArriveLaws.{front_at, has_syn, knocked, met_asks, met_else}
 use Rattle.ao_stack.proofs.stack.Stack.meet.Goals as goal
 
-pub returns-then-knocks-clause-told : goal.returns-then-knocks-clause-told
-returns-then-knocks-clause-told c s bytes S read q asks =
-    let d = c.args.datagram.now in
-    met_knocks _ (record { now = c.args.now; bytes = bytes }) c.args.pair.now d s S q (sym (c.knocks-knocks.ensures d (held_end (pair_reached d) s.node.ends) asks (front_at s c.args.pair.now (pair_reached d) q _ (c.front.ensures s.rows s.node S.ends))) ∙ c.if-knocks.true)
+pub judge-requires-clause-syn : goal.judge-requires-clause-syn
+judge-requires-clause-syn c = has_syn c.args.datagram.now (sym c.requires.asks ∙ c.asks_anew-asks_anew.ensures.only c.if-not-asks_anew.false)
 
-pub returns-clause-told : goal.returns-clause-told
-returns-clause-told c s bytes S read q asks =
+pub returns-then-not-asks_anew-clause-told : goal.returns-then-not-asks_anew-clause-told
+returns-then-not-asks_anew-clause-told c s bytes S read =
     let d = c.args.datagram.now in
-    met_else _ (record { now = c.args.now; bytes = bytes }) d s c.hear.result (sym (c.knocks-knocks.ensures d (held_end (pair_reached d) s.node.ends) asks (front_at s c.args.pair.now (pair_reached d) q _ (c.front.ensures s.rows s.node S.ends))) ∙ c.if-knocks.false)
-    (c.hear.ensures.told s bytes S read q)
+    let coming : Incoming = record { now = c.args.now; bytes = bytes } in
+    let front = front_at s c.args.pair.now (pair_reached d) c.requires.reached _ (c.front-front.ensures s.rows s.node S.ends) in
+    met_else _ coming d s c.hear.result (sym (c.asks_anew-asks_anew.ensures.asks d (held_end (pair_reached d) s.node.ends) c.requires.asks front) ∙ c.if-not-asks_anew.true)
+    (c.hear.ensures.told s bytes S read c.requires.reached)
+
+pub returns-in-Ok-clause-told : goal.returns-in-Ok-clause-told
+returns-in-Ok-clause-told c s bytes S read =
+    let d = c.args.datagram.now in
+    let coming : Incoming = record { now = c.args.now; bytes = bytes } in
+    let front = front_at s c.args.pair.now (pair_reached d) c.requires.reached _ (c.front-front.ensures s.rows s.node S.ends) in
+    let j = c.in-Ok.ensures s S in
+    met_asks _ coming d s (heards.Knocks c.args.pair.now) (Ok j.0) (sym (c.asks_anew-asks_anew.ensures.asks d (held_end (pair_reached d) s.node.ends) c.requires.asks front) ∙ c.if-not-asks_anew.false) j.1
+    (knocked _ coming c.args.pair.now d s j.0 S c.requires.reached)
+
+pub returns-in-Err-clause-told : goal.returns-in-Err-clause-told
+returns-in-Err-clause-told c s bytes S read =
+    let d = c.args.datagram.now in
+    let coming : Incoming = record { now = c.args.now; bytes = bytes } in
+    let front = front_at s c.args.pair.now (pair_reached d) c.requires.reached _ (c.front-front.ensures s.rows s.node S.ends) in
+    met_asks _ coming d s c.refuse.result (Err c.in-Err.why) (sym (c.asks_anew-asks_anew.ensures.asks d (held_end (pair_reached d) s.node.ends) c.requires.asks front) ∙ c.if-not-asks_anew.false) (c.in-Err.ensures s S)
+    (c.refuse.ensures.told s bytes S read c.requires.reached front)
