@@ -4,7 +4,7 @@ use Rattle.book_keys.specs.Rows.{Row, Table}
 use Rattle.book_sessions.specs.declared.uses.KeyUse.{KeyUse}
 use Rattle.book_sessions.specs.OutcomeTexts.{outcome_text}
 use Rattle.book_sessions_json.specs.Json.{json_member, json_string}
-use Rattle.book_sessions_json.specs.SessionJson.{asked_for_json, id_json, last_used_json}
+use Rattle.book_sessions_json.specs.SessionJson.{address_json, asked_for_json, id_json, last_used_json}
 use Rattle.book_sessions_json.specs.SessionJson.{sender_place, time_json}
 
 -- of segments: who sent them, under which KeyID, and what is said of them
@@ -23,6 +23,16 @@ span_members u = json_member (codes "segments") (decimal u.segments)
 abbrev pub asked_members : KeyUse → List (List ℕ)
 asked_members u = json_member (codes "asks") (id_json u.asked)
     ∷ json_member (codes "packet") (decimal u.packet) ∷ []
+
+-- of the last use of a row: its time and its packet
+abbrev pub seen_members : KeyUse → List (List ℕ)
+seen_members u = json_member (codes "at") (time_json u.last)
+    ∷ json_member (codes "packet") (decimal u.packet) ∷ []
+
+-- of the last use of a row: its session, and who sent it
+abbrev pub from_members : KeyUse → List (List ℕ)
+from_members u = json_member (codes "session") (decimal u.session)
+    ∷ json_member (codes "from") (address_json u.source.address) ∷ []
 
 -- of a row: its node and its number
 abbrev pub node_members : Table → (number : ℕ) → List (List ℕ)

@@ -1,8 +1,8 @@
 //! The keys of a key file in JSON.
-ghost use Rattle.std.specs.Prelude.{◌≡◌, ◌++◌, ◌∷◌, [], ℕ, IfOk, List, OnOk, codes, decimal, false, true};
+ghost use Rattle.std.specs.Prelude.{◌≡◌, ◌++◌, ◌∷◌, [], ℕ, IfOk, List, OnOk, Some, codes, decimal, false, true};
 ghost use Rattle.book_sessions_json.specs.Json.{json_items};
 ghost use Rattle.book_sessions_json.specs.SessionJson.{asked_for_json, key_json, keys_json, last_used_json, may_go_json, rows_json};
-ghost use Rattle.scope_sessions.specs.JsonParts.{id_members, node_members, state_members};
+ghost use Rattle.scope_sessions.specs.JsonParts.{from_members, id_members, node_members, seen_members, state_members};
 
 use crate::json_values::{push_address_text, push_comma, push_name, push_string, push_time};
 use crate::users::{first_asking, last_carrying};
@@ -12,24 +12,44 @@ use key_table::{Row, Table, Tables};
 use scope_retiring::{Evidence, may_go};
 use std::alloc::{AllocError, Global};
 
+// Puts the first members of a use of a row behind `out`: its time and its packet.
+fn push_seen(alloc: Global, out: &mut Vec<u8>, last: &KeyUse) -> Result<(), AllocError>
+    ensures { OnOk result (out.new.items ≡ out.old.items ++ 123 ∷ json_items true (seen_members last.now)) }
+{
+    push_name(out, b'{', b"at")?;
+    push_time(alloc, out, last.last)?;
+    push_name(out, b',', b"packet")?;
+    push_decimal(out, last.packet)
+}
+
+// Puts the last members of a use of a row behind `out`: its session and its sender.
+fn push_from(alloc: Global, out: &mut Vec<u8>, last: &KeyUse) -> Result<(), AllocError>
+    ensures { OnOk result (out.new.items ≡ out.old.items ++ (json_items false (from_members last.now) ++ 125 ∷ [])) }
+{
+    push_name(out, b',', b"session")?;
+    push_decimal(out, last.session)?;
+    push_name(out, b',', b"from")?;
+    push_address_text(alloc, out, &last.source.address)?;
+    out.push(b'}')?;
+    Ok(())
+}
+
+// Puts a use of a row behind `out`.
+#[tactic(auto, unfolding(book_sessions_json::specs::SessionJson::last_used_json))]
+fn push_used(alloc: Global, out: &mut Vec<u8>, last: &KeyUse) -> Result<(), AllocError>
+    ensures { OnOk result (out.new.items ≡ out.old.items ++ last_used_json (Some last.now)) }
+{
+    push_seen(alloc, out, last)?;
+    push_from(alloc, out, last)
+}
+
 #[tactic(auto, unfolding(book_sessions_json::specs::SessionJson::last_used_json))]
 fn push_last(alloc: Global, out: &mut Vec<u8>, last: Option<KeyUse>) -> Result<(), AllocError>
     ensures { OnOk result (out.new.items ≡ out.old.items ++ last_used_json last) }
 {
     match last {
         None => out.extend_from_slice(b"null"),
-        Some(last) => {
-            push_name(out, b'{', b"at")?;
-            push_time(alloc, out, last.last)?;
-            push_name(out, b',', b"packet")?;
-            push_decimal(out, last.packet)?;
-            push_name(out, b',', b"session")?;
-            push_decimal(out, last.session)?;
-            push_name(out, b',', b"from")?;
-            push_address_text(alloc, out, &last.source.address)?;
-            out.push(b'}')?;
-            Ok(())
-        }
+        Some(last) => push_used(alloc, out, &last),
     }
 }
 

@@ -1,7 +1,9 @@
 //! The lines of the keys of a key file.
-ghost use Rattle.std.specs.Prelude.{◌≡◌, ◌++◌, ◌∷◌, [], OnOk, codes, decimal};
+ghost use Rattle.std.specs.Prelude.{◌≡◌, ◌++◌, ◌∷◌, [], OnOk, Some, codes, decimal};
 ghost use Rattle.std.specs.List.{list_any};
 ghost use Rattle.book_lines.specs.Texts.{spaced};
+ghost use Rattle.book_scope_texts.specs.Addresses.{usual_address_text};
+ghost use Rattle.book_scope_texts.specs.Instants.{instant_text};
 ghost use Rattle.scope_sessions.specs.KeyRows.{found_line};
 ghost use Rattle.book_sessions.specs.KeyLines.{asking_texts, is_any, key_line, key_lines, keys_lines, last_texts, may_go_text, seen_peers_text};
 
@@ -15,19 +17,40 @@ use scope_retiring::{Evidence, may_go};
 use std::alloc::AllocError;
 use text_lines::{push_field, push_newline, push_number, push_text};
 
+// Puts the time and the packet of the last use of a row behind `out`.
+fn push_seen(out: &mut Vec<u8>, last: &KeyUse) -> Result<(), AllocError>
+    ensures { OnOk result (out.new.items ≡ out.old.items ++ spaced (codes "last used" ∷ instant_text last.now.last
+        ∷ codes "packet" ∷ decimal last.now.packet ∷ [])) }
+{
+    push_text(out, b"last used")?;
+    push_time(out, last.last)?;
+    push_field(out, b"packet", last.packet)
+}
+
+// Puts the session and the sender of the last use of a row behind `out`.
+fn push_from(out: &mut Vec<u8>, last: &KeyUse) -> Result<(), AllocError>
+    ensures { OnOk result (out.new.items ≡ out.old.items ++ spaced (codes "session" ∷ decimal last.now.session
+        ∷ codes "from" ∷ usual_address_text last.now.source.address ∷ [])) }
+{
+    push_field(out, b"session", last.session)?;
+    push_text(out, b"from")?;
+    push_host(out, &last.source.address)
+}
+
+// Puts the last use of a row behind `out`.
+fn push_used(out: &mut Vec<u8>, last: &KeyUse) -> Result<(), AllocError>
+    ensures { OnOk result (out.new.items ≡ out.old.items ++ spaced (last_texts (Some last.now) [])) }
+{
+    push_seen(out, last)?;
+    push_from(out, last)
+}
+
 fn push_last(out: &mut Vec<u8>, last: Option<KeyUse>) -> Result<(), AllocError>
     ensures { OnOk result (out.new.items ≡ out.old.items ++ spaced (last_texts last [])) }
 {
     match last {
         None => push_text(out, b"never used"),
-        Some(last) => {
-            push_text(out, b"last used")?;
-            push_time(out, last.last)?;
-            push_field(out, b"packet", last.packet)?;
-            push_field(out, b"session", last.session)?;
-            push_text(out, b"from")?;
-            push_host(out, &last.source.address)
-        }
+        Some(last) => push_used(out, &last),
     }
 }
 
@@ -138,8 +161,7 @@ fn push_key(
     let asked = first_asking(evidence, table, number, row);
     let may = may_go(evidence, tables, table, number, row);
     push_found(out, table, number, row, last, asked, may)?;
-    push_obstacles(out, evidence, tables, table, number, row)?;
-    Ok(())
+    push_obstacles(out, evidence, tables, table, number, row)
 }
 
 fn push_rows(

@@ -3,7 +3,7 @@ ghost use Rattle.std.specs.Prelude.{◌≡◌, ◌++◌, ◌∷◌, [], OnOk, co
 ghost use Rattle.std.specs.List.{flat_map, list_any};
 ghost use Rattle.book_scope_texts.specs.Addresses.{usual_address_text};
 ghost use Rattle.book_sessions.specs.KeyLines.{absent_line, absent_text, doubt_line, held_line, held_line_at, held_text, is_of_peer, lacking_line, lines_without, obstacle_by, obstacle_line, obstacle_lines, unanswered_line, unseen_line};
-ghost use Rattle.book_sessions.specs.Retiring.{goes_from};
+ghost use Rattle.book_sessions.specs.Retiring.{all_without, goes_from};
 ghost use Rattle.scope_retiring.specs.Known.{HasSession};
 
 use crate::session_texts::{push_host, push_time};
@@ -224,22 +224,23 @@ fn push_lacking_lines(
     evidence: &Evidence,
     tables: &Tables,
     table: &Table,
+    number: u64,
     row: &Row,
-    without: bool,
 ) -> Result<(), AllocError>
-    ensures { OnOk result (out.new.items ≡ out.old.items ++ lines_without evidence.now tables.now table.now row.now without) }
+    ensures { OnOk result (out.new.items ≡ out.old.items ++ lines_without evidence.now tables.now table.now row.now
+        (all_without evidence.now table.now number row.now)) }
 {
-    if without {
+    if all_without(evidence, table, number, row) {
         push_all_lacking(out, evidence, tables, table, row)
     } else {
         Ok(())
     }
 }
 
-fn push_doubt(out: &mut Vec<u8>, doubt: bool) -> Result<(), AllocError>
-    ensures { OnOk result (out.new.items ≡ out.old.items ++ doubt_line doubt) }
+fn push_doubt(out: &mut Vec<u8>, evidence: &Evidence) -> Result<(), AllocError>
+    ensures { OnOk result (out.new.items ≡ out.old.items ++ doubt_line evidence.now.doubt) }
 {
-    if doubt {
+    if evidence.doubt() {
         out.extend_from_slice(b"  packets passed over that may be segments\n")
     } else {
         Ok(())
@@ -259,7 +260,6 @@ pub(crate) fn push_obstacles(
 {
     push_all_held(out, evidence, table, number, row)?;
     push_all_absent(out, evidence, table, row)?;
-    let without = all_without(evidence, table, number, row);
-    push_lacking_lines(out, evidence, tables, table, row, without)?;
-    push_doubt(out, evidence.doubt())
+    push_lacking_lines(out, evidence, tables, table, number, row)?;
+    push_doubt(out, evidence)
 }

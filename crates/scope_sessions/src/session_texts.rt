@@ -193,6 +193,18 @@ fn push_direction(out: &mut Vec<u8>, one: &KeyUse) -> Result<(), AllocError>
     push_id(out, one.key_id)
 }
 
+// Puts behind `out` how many segments they are, and when they were seen.
+fn push_seen(out: &mut Vec<u8>, one: &KeyUse) -> Result<(), AllocError>
+    ensures { OnOk result (out.new.items ≡ out.old.items ++ spaced (decimal one.now.segments ∷ codes "first" ∷ instant_text one.now.first
+        ∷ codes "last" ∷ instant_text one.now.last ∷ [])) }
+{
+    push_number(out, one.segments)?;
+    push_text(out, b"first")?;
+    push_time(out, one.first)?;
+    push_text(out, b"last")?;
+    push_time(out, one.last)
+}
+
 // Puts the end of the line of segments behind `out`: how many they are, when they were seen, what they
 // ask for, and the last packet.
 fn push_numbers(out: &mut Vec<u8>, one: &KeyUse) -> Result<(), AllocError>
@@ -200,11 +212,7 @@ fn push_numbers(out: &mut Vec<u8>, one: &KeyUse) -> Result<(), AllocError>
         ∷ codes "last" ∷ instant_text one.now.last ∷ codes "asks" ∷ id_text one.now.asked
         ∷ codes "packet" ∷ decimal one.now.packet ∷ []) ++ 10 ∷ [])) }
 {
-    push_number(out, one.segments)?;
-    push_text(out, b"first")?;
-    push_time(out, one.first)?;
-    push_text(out, b"last")?;
-    push_time(out, one.last)?;
+    push_seen(out, one)?;
     push_text(out, b"asks")?;
     push_id(out, one.asked)?;
     push_field(out, b"packet", one.packet)?;
