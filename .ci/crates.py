@@ -1,30 +1,83 @@
 #!/usr/bin/env python3
-"""Whether crates.txt, the folders of `crates`, README's table of crates and the tables of docs/ARCHITECTURE.md name the same crates, each
-once. Names what is missing or stands twice, and fails. Prints how many there are and the longest chain of crates that stand on one another,
-which is what a change at the bottom has to go through."""
+"""Whether crates.txt, the folders of `crates` and the tables of docs/ARCHITECTURE.md name the same crates, each once, and whether those
+tables say what crates.txt and the crates' own heads say. Names what is missing, stands twice or differs, and fails. Prints how many crates
+there are and the longest chain of crates that stand on one another, which is what a change at the bottom has to go through.
+
+    .ci/crates.py            checks
+    .ci/crates.py --write    writes the tables of docs/ARCHITECTURE.md anew: a table for each heading of crates.txt, a row for each crate,
+                             with the first sentence of its src/lib.rt (or src/main.rt) and those crates on which it stands that none
+                             of the others brings with it
+"""
 import collections
+import difflib
 import pathlib
 import re
 import sys
 
 TOP = pathlib.Path(__file__).resolve().parent.parent
+ARCHITECTURE = TOP / "docs/ARCHITECTURE.md"
+BEGIN, END = "<!-- crates: written by `.ci/crates.py --write` -->", "<!-- end of crates -->"
 
 
 def listed():
-    """The crates of crates.txt, in its order, each with those on which it stands."""
-    lines = (TOP / "crates.txt").read_text(encoding="utf-8").splitlines()
-    found = [line.split(":") for line in lines if line and not line.startswith("#")]
-    found = [(head.split()[0], under) for head, under in found]  # behind the name may stand `staticlib`
-    return [name for name, _ in found], {name: under.split() for name, under in found}
+    """The crates of crates.txt, in its order, each with those on which it stands, and each with the heading above it."""
+    names, under, headings, heading = [], {}, {}, ""
+    for line in (TOP / "crates.txt").read_text(encoding="utf-8").splitlines():
+        if line.startswith("#"):
+            heading = line.lstrip("# ")
+        elif line:
+            head, _, rest = line.partition(":")
+            name = head.split()[0]  # after the name may stand `staticlib`
+            names.append(name)
+            under[name], headings[name] = rest.split(), heading
+    return names, under, headings
 
 
-def cells(file, heading, column):
-    """The names in backticks of one column of the tables behind a heading, up to the next one of the same rank."""
-    text = (TOP / file).read_text(encoding="utf-8")
-    body = re.split(rf"(?m)^## {re.escape(heading)}.*$", text)[1]
-    for line in re.split(r"(?m)^## ", body)[0].splitlines():
-        if line.startswith("| "):
-            yield from re.findall(r"`(\w+)`", line.split("|")[column])
+def first_sentence(name):
+    """The first sentence of a crate's head, or None where it has none."""
+    files = [TOP / "crates" / name / "src" / file for file in ("lib.rt", "main.rt")]
+    lines = next((file.read_text(encoding="utf-8").splitlines() for file in files if file.is_file()), [])
+    words = []
+    for line in lines:
+        if not line.startswith("//! "):
+            break
+        words.append(line[4:].strip())
+    found = re.match(r".*?[^.\d]\.(?= |$)", " ".join(words))
+    return found and found.group()
+
+
+def above_all(name, under):
+    """The crates on which one stands that none of the others of them brings with it."""
+    reached = {}
+
+    def reach(it):
+        if it not in reached:
+            reached[it] = set(under.get(it, [])).union(*map(reach, under.get(it, [])))
+        return reached[it]
+
+    brought = set().union(*map(reach, under[name]))
+    return [it for it in under[name] if it not in brought]
+
+
+def tables(names, under, headings):
+    """The lines of the tables: one for each heading, with a row for each crate."""
+    heading = None
+    for name in names:
+        if headings[name] != heading:
+            heading = headings[name]
+            yield from ["", f"### {heading[:1].upper()}{heading[1:]}", "", "| crate | what it is | stands on |", "|---|---|---|"]
+        said = (first_sentence(name) or "").replace("|", "\\|")
+        yield f"| `{name}` | {said} | {', '.join(f'`{it}`' for it in above_all(name, under))} |"
+    yield ""
+
+
+def parts(text):
+    """The text of ARCHITECTURE before its tables, the lines of the tables, and the text after them."""
+    before, begin, rest = text.partition(f"{BEGIN}\n")
+    inside, end, after = rest.partition(f"{END}\n")
+    if not begin or not end or BEGIN in rest or END in after:
+        sys.exit(f"docs/ARCHITECTURE.md: the lines {BEGIN} and {END} must stand there once each, in this order")
+    return before, inside.splitlines(), after
 
 
 def disagreements(wanted, where, names):
@@ -32,6 +85,14 @@ def disagreements(wanted, where, names):
     yield from (f"{where}: {name} is missing" for name in wanted if not counts[name])
     yield from (f"{where}: {name} is no crate" for name in counts if name not in wanted)
     yield from (f"{where}: {name} stands {count} times" for name, count in counts.items() if count > 1)
+
+
+def differences(wanted, found):
+    """Where the tables say something else than they should: `-` what stands there, `+` what should."""
+    lines = [it for it in difflib.unified_diff(found, wanted, n=0, lineterm="") if not it.startswith(("---", "+++", "@@"))]
+    yield from (f"docs/ARCHITECTURE.md: {line}" for line in lines[:6])
+    if lines:
+        yield f"docs/ARCHITECTURE.md: {len(lines)} lines of its tables differ; `.ci/crates.py --write` writes them anew"
 
 
 def longest_chain(under):
@@ -46,16 +107,22 @@ def longest_chain(under):
 
 
 def main():
-    names, under = listed()
+    names, under, headings = listed()
+    wanted = list(tables(names, under, headings))
+    before, inside, after = parts(ARCHITECTURE.read_text(encoding="utf-8"))
+    if sys.argv[1:] == ["--write"]:
+        ARCHITECTURE.write_text("\n".join([f"{before}{BEGIN}", *wanted, f"{END}\n{after}"]), encoding="utf-8")
+        inside = wanted
+    elif sys.argv[1:]:
+        sys.exit(__doc__)
     folders = [path.name for path in (TOP / "crates").iterdir() if (path / "src").is_dir()]
-    architecture = [it for heading in ["The book", "The laws", "The machine"] for it in cells("docs/ARCHITECTURE.md", heading, 1)]
+    rows = [it for line in inside for it in re.findall(r"^\| `(\w+)`", line)]
     faults = [*disagreements(names, "crates.txt", names), *disagreements(names, "crates", folders),
-              *disagreements(names, "README.md", cells("README.md", "Crates, by storey", 2)),
-              *disagreements(names, "docs/ARCHITECTURE.md", architecture)]
+              *disagreements(names, "docs/ARCHITECTURE.md", rows), *differences(wanted, inside),
+              *(f"crates/{name}: its src/lib.rt begins with no sentence that says what it is" for name in names if not first_sentence(name))]
     chain = longest_chain(under)
     print(f"crates: {len(names)}; the longest chain has {len(chain)}: {' '.join(chain)}")
-    for fault in faults:
-        print(fault)
+    print(*faults, sep="\n", end="\n" if faults else "")
     return 1 if faults else 0
 
 
