@@ -1,12 +1,13 @@
 #!/usr/bin/env python3
-"""Whether crates.txt, the folders of `crates` and the tables of docs/ARCHITECTURE.md name the same crates, each once, and whether those
-tables say what crates.txt and the crates' own heads say. Names what is missing, stands twice or differs, and fails. Prints how many crates
-there are and the longest chain of crates that stand on one another, which is what a change at the bottom has to go through.
+"""Whether crates.txt, the folders of `crates` and the tables of docs/ARCHITECTURE.md name the same crates, each once, and
+whether those tables say what crates.txt and the crates' own heads say. Names what is missing, stands twice or differs, and
+fails. Prints how many crates there are and the longest chain of crates that stand on one another, which is what a change at
+the bottom has to go through.
 
     .ci/crates.py            checks
-    .ci/crates.py --write    writes the tables of docs/ARCHITECTURE.md anew: a table for each heading of crates.txt, a row for each crate,
-                             with the first sentence of its src/lib.rt (or src/main.rt) and those crates on which it stands that none
-                             of the others brings with it
+    .ci/crates.py --write    writes the tables of docs/ARCHITECTURE.md anew: a table for each heading of crates.txt, a row for
+                             each crate, with the first sentence of its src/lib.rt (or src/main.rt) and those crates on which
+                             it stands that none of the others brings with it
 """
 import collections
 import difflib
@@ -20,7 +21,7 @@ BEGIN, END = "<!-- crates: written by `.ci/crates.py --write` -->", "<!-- end of
 
 
 def listed():
-    """The crates of crates.txt, in its order, each with those on which it stands, and each with the heading above it."""
+    """The crates of crates.txt, in its order, those on which each stands, and the heading above each."""
     names, under, headings, heading = [], {}, {}, ""
     for line in (TOP / "crates.txt").read_text(encoding="utf-8").splitlines():
         if line.startswith("#"):
@@ -76,7 +77,7 @@ def parts(text):
     before, begin, rest = text.partition(f"{BEGIN}\n")
     inside, end, after = rest.partition(f"{END}\n")
     if not begin or not end or BEGIN in rest or END in after:
-        sys.exit(f"docs/ARCHITECTURE.md: the lines {BEGIN} and {END} must stand there once each, in this order")
+        sys.exit(f"docs/ARCHITECTURE.md: it must have the lines {BEGIN} and {END} once each, in this order")
     return before, inside.splitlines(), after
 
 
@@ -89,7 +90,8 @@ def disagreements(wanted, where, names):
 
 def differences(wanted, found):
     """Where the tables say something else than they should: `-` what stands there, `+` what should."""
-    lines = [it for it in difflib.unified_diff(found, wanted, n=0, lineterm="") if not it.startswith(("---", "+++", "@@"))]
+    every = difflib.unified_diff(found, wanted, n=0, lineterm="")
+    lines = [it for it in every if not it.startswith(("---", "+++", "@@"))]
     yield from (f"docs/ARCHITECTURE.md: {line}" for line in lines[:6])
     if lines:
         yield f"docs/ARCHITECTURE.md: {len(lines)} lines of its tables differ; `.ci/crates.py --write` writes them anew"
@@ -117,9 +119,10 @@ def main():
         sys.exit(__doc__)
     folders = [path.name for path in (TOP / "crates").iterdir() if (path / "src").is_dir()]
     rows = [it for line in inside for it in re.findall(r"^\| `(\w+)`", line)]
+    silent = [name for name in names if not first_sentence(name)]
     faults = [*disagreements(names, "crates.txt", names), *disagreements(names, "crates", folders),
               *disagreements(names, "docs/ARCHITECTURE.md", rows), *differences(wanted, inside),
-              *(f"crates/{name}: its src/lib.rt begins with no sentence that says what it is" for name in names if not first_sentence(name))]
+              *(f"crates/{name}: its src/lib.rt begins with no sentence that says what it is" for name in silent)]
     chain = longest_chain(under)
     print(f"crates: {len(names)}; the longest chain has {len(chain)}: {' '.join(chain)}")
     print(*faults, sep="\n", end="\n" if faults else "")
