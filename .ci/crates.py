@@ -1,13 +1,13 @@
 #!/usr/bin/env python3
-"""Whether crates.txt, the folders of `crates` and the tables of docs/ARCHITECTURE.md name the same crates, each once, and
-whether those tables say what crates.txt and the crates' own heads say. Names what is missing, stands twice or differs, and
-fails. Prints how many crates there are and the longest chain of crates that stand on one another, which is what a change at
-the bottom has to go through.
+"""Whether crates.txt, the folders of `crates` and the tables of docs/ARCHITECTURE.md name the same crates, each once,
+and whether those tables say what crates.txt and the crates' own heads say. Names what is missing, stands twice or
+differs, and fails. Prints how many crates there are and the longest chain of crates that stand on one another, which
+is what a change at the bottom has to go through.
 
     .ci/crates.py            checks
-    .ci/crates.py --write    writes the tables of docs/ARCHITECTURE.md anew: a table for each heading of crates.txt, a row for
-                             each crate, with the first sentence of its src/lib.rt (or src/main.rt) and those crates on which
-                             it stands that none of the others brings with it
+    .ci/crates.py --write    writes the tables of docs/ARCHITECTURE.md anew: a table for each heading of crates.txt, a
+                             row for each crate, with the first sentence of its src/lib.rt (or src/main.rt) and those
+                             crates on which it stands that none of the others brings with it
 """
 import collections
 import difflib
@@ -66,7 +66,8 @@ def tables(names, under, headings):
     for name in names:
         if headings[name] != heading:
             heading = headings[name]
-            yield from ["", f"### {heading[:1].upper()}{heading[1:]}", "", "| crate | what it is | stands on |", "|---|---|---|"]
+            title = f"### {heading[:1].upper()}{heading[1:]}"
+            yield from ["", title, "", "| crate | what it is | stands on |", "|---|---|---|"]
         said = (first_sentence(name) or "").replace("|", "\\|")
         yield f"| `{name}` | {said} | {', '.join(f'`{it}`' for it in above_all(name, under))} |"
     yield ""
