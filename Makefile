@@ -9,7 +9,7 @@ help:
 	@echo 'make programs [PROVE=no]              aotcp, aoscope, ao-nc, libaotcp, man pages and completions, in $(OUT)'
 	@echo 'make check                            the gate: proves everything and runs all of it'
 	@echo 'make install [PREFIX= DESTDIR=]       puts what make programs built to its places; make uninstall takes it away'
-	@echo 'make check-installed                  whether pages and completions say what --help says, once make programs has built them'
+	@echo 'make check-pages                  whether pages and completions say what --help says, once make programs has built them'
 	@echo 'make dist                             the sources as aotcp-VERSION.tar.gz, in out/'
 
 programs:
@@ -19,7 +19,7 @@ programs:
 check:
 	.ci/run
 
-check-installed:
+check-pages:
 	packaging/check $(OUT)
 
 install:
@@ -31,4 +31,4 @@ uninstall:
 dist:
 	packaging/dist out
 
-.PHONY: help programs check check-installed install uninstall dist
+.PHONY: help programs check check-pages install uninstall dist
