@@ -47,12 +47,12 @@ def replace_once(file, old, new):
 
 
 def copy_to(folder, kind):
-    """Copies the crates to the folder, and puts the version's text in."""
+    """Copies the crates to the folder, and puts the version's text in where there is a kind."""
     for name in ("crates.txt", "HANDLES"):
         shutil.copyfile(TOP / name, folder / name)
     for crate in (TOP / "crates").iterdir():
         for part in PARTS:
             if (crate / part).is_dir():
                 shutil.copytree(crate / part, folder / "crates" / crate.name / part)
-    for file, text in places():
+    for file, text in places() if kind else ():
         replace_once(folder / file, text, text.replace(number(), version_text(kind)))
