@@ -11,6 +11,12 @@ def said(program, *words):
     return subprocess.run([program, *words], stdin=subprocess.DEVNULL, stdout=subprocess.PIPE, text=True, check=True).stdout
 
 
+def takes(program, *words):
+    """Whether the program does something for these words."""
+    how = {"stdin": subprocess.DEVNULL, "stdout": subprocess.DEVNULL, "stderr": subprocess.DEVNULL}
+    return subprocess.run([program, *words], check=False, **how).returncode == 0
+
+
 class Page:
     """A page of help in clap's form: `about`, `usage`, its lists by their heads, and its paragraphs, each a list of lines."""
 
@@ -59,6 +65,10 @@ class Aotcp:
         self.status = " ".join(lines[first:])
         if sorted(self.about) != sorted(self.words):
             raise SystemExit("aotcp --help: its usage and its lines name other words")
+        # The ways to ask for help, for the version, and for help behind a word.
+        self.helps = [it for it in ("-h", "--help", "help") if takes(program, it)]
+        self.versions = [it for it in ("-V", "--version") if takes(program, it)]
+        self.helps_behind = [it for it in ("-h", "--help") if all(takes(program, word, it) for word in self.words)]
 
     def forms_of(self, word):
         return [form for form in self.forms if form.split()[0] == word]
