@@ -6,11 +6,11 @@ PROVE ?= yes
 OUT ?= out/programs
 
 help:
-	@echo 'make programs [PROVE=no]              aotcp, aoscope, ao-nc, libaotcp, man pages and completions, in $(OUT)'
-	@echo 'make check                            the gate: proves everything and runs all of it'
-	@echo 'make install [PREFIX= DESTDIR=]       puts what make programs built to its places; make uninstall takes it away'
-	@echo 'make check-pages                  whether pages and completions say what --help says, once make programs has built them'
-	@echo 'make dist                             the sources as aotcp-VERSION.tar.gz, in out/'
+	@echo 'make programs [PROVE=no]             aotcp, aoscope, ao-nc, libaotcp, manual pages and completions, in $(OUT)'
+	@echo 'make check                           the gate: proves everything and runs all of it'
+	@echo 'make check-pages                     whether pages and completions say what --help says'
+	@echo 'make install [PREFIX= DESTDIR=]      puts in place what make programs built; make uninstall takes it away'
+	@echo 'make dist                            the sources of the last commit, as out/aotcp-VERSION.tar.gz'
 
 programs:
 	packaging/programs $(if $(filter no,$(PROVE)),quick,proved) $(OUT)
