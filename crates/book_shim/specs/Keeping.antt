@@ -1,17 +1,24 @@
 -- What is kept of a pair of sockets whose datagrams pass through: `begun` is the file's top.
-use Rattle.std.specs.Prelude.{ℕ, ◌+◌, ◌-◌, ◌%◌, ◌==◌, Bool, true, false, not, ◌&&◌}
+use Rattle.std.specs.Prelude.{ℕ, ◌+◌, ◌-◌, ◌%◌, ◌==◌, Bool, true, false, not, ◌&&◌, List}
 use Rattle.std.specs.Prelude.{Option, Some, None, option_map, Result, Ok, Err}
 use Rattle.book_segments.specs.Bytes.{ring}
 use Rattle.book_segments.specs.Segments.{Segment, has, SYN, ACK}
+use Rattle.book_keys.specs.Rows.{Row}
 use Rattle.book_shim.specs.declared.kept.Isns.{Isns}
 use Rattle.book_shim.specs.declared.kept.Kept.{Kept}
+
+-- under what a datagram is handled: the rows of the key table, the time, and the MTU of the device
+-- over which the pair's datagrams come (own)
+pub record Setting : Type 0 where
+  pub rows : List Row
+  pub now : ℕ
+  pub mtu : ℕ
 
 -- nothing was seen of the pair (own)
 abbrev pub fresh : Kept
 fresh = record {
   opening = None;
   isns = None;
-  knocking = None;
   sent = 0;
   heard = 0;
   current = None;
@@ -49,7 +56,6 @@ abbrev pub connection_begun : Kept → (own peer : ℕ) → Kept
 connection_begun g own peer = record {
   opening = None;
   isns = Some (record { own = own; peer = peer });
-  knocking = None;
   sent = own + 1;
   heard = peer + 1;
   current = g.current;

@@ -2,7 +2,7 @@
 -- `send_sealed` and `outbound`.
 use Rattle.std.specs.Prelude.{ℕ, ◌+◌, ◌-◌, ◌==◌, nat_le, Bool, not, ◌&&◌, ◌||◌, max}
 use Rattle.std.specs.Prelude.{if◌then◌else◌, List, ◌∷◌, ◌++◌, length, replicate}
-use Rattle.std.specs.Prelude.{Some, Result, Ok, Err}
+use Rattle.std.specs.Prelude.{Some, None, Result, Ok, Err}
 use Rattle.std.specs.List.{list_any}
 use Rattle.book_base.specs.declared.address.Pair.{Pair}
 use Rattle.book_base.specs.Algorithms.{mac_length_of}
@@ -15,7 +15,6 @@ use Rattle.book_segments.specs.Sockets.{same_socket}
 use Rattle.book_macs.specs.Contexts.{context_of}
 use Rattle.book_macs.specs.MacInput.{mac_input}
 use Rattle.book_macs.specs.Keys.{traffic_key, mac}
-use Rattle.book_keys.specs.Rows.{Row}
 use Rattle.book_keys.specs.Coordination.{Sending, choose}
 use Rattle.book_endpoint.specs.States.{number_limit}
 use Rattle.book_endpoint.specs.Verdicts.{segment_number}
@@ -25,7 +24,7 @@ use Rattle.book_shim.specs.declared.refusal.Unsent.TheVariants.{Bad, Foreign, Si
 use Rattle.book_shim.specs.declared.refusal.Unsent.TheVariants.{Range, NoKey, NoRoom, TooLong}
 use Rattle.book_shim.specs.declared.kept.Kept.{Kept}
 use Rattle.book_shim.specs.Keeping.{own_isn, peer_isn, is_the_number, are_isns, is_opening_syn}
-use Rattle.book_shim.specs.Keeping.{answered_isn, connection_begun, demand}
+use Rattle.book_shim.specs.Keeping.{answered_isn, connection_begun, demand, Setting}
 use Rattle.book_shim.specs.Relaying.{fitted, relaid, length_in_header}
 
 -- what was sent in place of a datagram of the own kernel, and what is kept then (own)
@@ -42,25 +41,24 @@ pub record Sealed : Type 0 where
 abbrev pub signs : Plain → Bool
 signs o = (o.kind == ao_kind) || (o.kind == md5_kind)
 
--- what is kept once the own kernel sends a SYN: it is out, unless it is that of the connection in
--- use, again (own)
+-- what is kept once the own kernel sends a SYN: it is out, and no key is current yet, unless it is
+-- that SYN or that of the connection in use, again (RFC 5925, section 7.4, and own)
 abbrev pub opening : Kept → ℕ → Kept
 opening g own =
-    if is_the_number (own_isn g) own then g else record g { opening = Some own }
+    if is_the_number (own_isn g) own || is_the_number g.opening own then g
+    else record g { opening = Some own; current = None }
 
--- what is kept once the own kernel answers a SYN: that of the connection in use, again, or the one
--- that knocks, with which the connection begins (RFC 9293, section 3.5, and own)
-abbrev pub accepting : Kept → (own peer : ℕ) → Result Kept Unsent
-accepting g own peer =
-    if are_isns g.isns own peer then Ok g
-    else (if is_the_number g.knocking peer then Ok (connection_begun g own peer) else Err NoContext)
+-- what is kept once the own kernel answers a SYN: with it a connection begins, unless it is that of
+-- the connection in use, again. What the kernel answers had passed (RFC 9293, section 3.5, and own)
+abbrev pub accepting : Kept → (own peer : ℕ) → Kept
+accepting g own peer = if are_isns g.isns own peer then g else connection_begun g own peer
 
 -- what is kept once the own kernel has made a segment (own)
-abbrev pub entered : Kept → Segment → Result Kept Unsent
+abbrev pub entered : Kept → Segment → Kept
 entered g d =
     if has SYN d
-    then (if has ACK d then accepting g d.sequence (answered_isn d) else Ok (opening g d.sequence))
-    else Ok g
+    then (if has ACK d then accepting g d.sequence (answered_isn d) else opening g d.sequence)
+    else g
 
 -- the greatest number moves, but by a SYN without ACK: it isn't of the connection in use (own)
 abbrev pub past_sent : Kept → Segment → ℕ → Kept
@@ -121,27 +119,30 @@ sealed_with g d area u =
       segment = with_ao d area u.sending (code_for u.sending u.context input);
     }
 
--- what is sent in place of a datagram of the own kernel, or the first of these refusals that holds
--- (RFC 5925, section 7.4, and own)
-unfoldable pub send_sealed : List Row → Pair → ℕ → Kept → Segment → Result Sealed Unsent
-send_sealed rows pair now g d = do
+-- what is sent in place of a datagram of the own kernel, this being kept with it, or the first of
+-- these refusals that holds (RFC 5925, section 7.4, and own)
+unfoldable pub send_within : Setting → Pair → Kept → Segment → Result Sealed Unsent
+send_within here pair e d = do
   plain ← demand (not (list_any signs (plains (listed (options_of d.area))))) Signed
-  e ← entered g d
   context ← or_fault (context_of d (own_isn e) (peer_isn e)) NoContext
   n ← or_fault (segment_number d (Some e.sent)) Range
   ends ← demand (nat_le (n + segment_length d) number_limit) Range
-  s ← or_fault (choose e.current rows pair now) NoKey
-  area ← or_fault (fitted (40 - ao_length s) 4 d.area) NoRoom
+  s ← or_fault (choose e.current here.rows pair here.now) NoKey
+  area ← or_fault (fitted (40 - ao_length s) d.area) NoRoom
   whole ← demand (nat_le (length_in_header d.ip (with_ao d area s (no_code s))) 65535) TooLong
   Ok (sealed_with e d area (record { sending = s; context = context; number = n }))
 
+-- what is sent in place of a datagram of the own kernel (RFC 5925, section 7.4)
+abbrev pub send_sealed : Setting → Pair → Kept → Segment → Result Sealed Unsent
+send_sealed here pair g d = send_within here pair (entered g d) d
+
 -- what is sent in place of what was read from the own kernel (own)
-abbrev pub send_read : List Row → Pair → ℕ → Kept → Reading → Result Sealed Unsent
-send_read rows pair now g (Unread fault) = Err (Bad fault)
-send_read rows pair now g (Read d) =
+abbrev pub send_read : Setting → Pair → Kept → Reading → Result Sealed Unsent
+send_read here pair g (Unread fault) = Err (Bad fault)
+send_read here pair g (Read d) =
     if same_socket d.source pair.local && same_socket d.destination pair.remote
-    then send_sealed rows pair now g d else Err Foreign
+    then send_sealed here pair g d else Err Foreign
 
 -- what is sent in place of bytes of the own kernel (own)
-abbrev pub outbound : List Row → Pair → ℕ → Kept → List ℕ → Result Sealed Unsent
-outbound rows pair now g bytes = send_read rows pair now g (reading bytes)
+abbrev pub outbound : Setting → Pair → Kept → List ℕ → Result Sealed Unsent
+outbound here pair g bytes = send_read here pair g (reading bytes)

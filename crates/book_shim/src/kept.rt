@@ -14,8 +14,6 @@ pub struct Kept {
     pub opening: Option<u32>,
     /// Those of the connection in use.
     pub isns: Option<Isns>,
-    /// That of the peer's last SYN that passed and isn't of the connection in use.
-    pub knocking: Option<u32>,
     /// The number after the greatest that was sent in the connection.
     pub sent: u64,
     /// The number after the greatest that was heard in the connection.

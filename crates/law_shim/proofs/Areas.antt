@@ -7,7 +7,8 @@ use Rattle.book_segments.specs.Areas.{spell_option, spell_options, Open, ending,
 use Rattle.book_segments.specs.Options.{Opt, Plain, Options, Listed, least, plains, listed, options_of, AreListed, of_kind, One, ao_of, found, find_ao}
 use Rattle.book_segments.proofs.AreaLaws.{area_is, area_of}
 use Rattle.book_keys.specs.Coordination.{Sending}
-use Rattle.book_shim.specs.Relaying.{spelled, sack, going, written_by}
+use Rattle.book_shim.specs.Relaying.{spelled, sack, going, is_left_out, written_by}
+use Rattle.book_shim.specs.declared.trim.Trim.{Trim}
 use Rattle.book_shim.specs.Leaving.{signs, ao_bytes, ao_last}
 
 -- ---- options that are written
@@ -87,10 +88,10 @@ of_sack [] = []
 of_sack (b ∷ bs) = record { kind = 5; body = b ∷ bs } ∷ []
 
 -- what is left of an option
-abbrev pub gone : ℕ → Plain → List Plain
-gone k o = if o.kind == 0 then [] else (if o.kind == 5 then of_sack (take (8 * k) o.body) else o ∷ [])
+abbrev pub gone : Trim → Plain → List Plain
+gone k o = if is_left_out k o then [] else (if o.kind == 5 then of_sack (take (8 * k.blocks) o.body) else o ∷ [])
 
-abbrev pub goings : ℕ → List Plain → List Plain
+abbrev pub goings : Trim → List Plain → List Plain
 goings k [] = []
 goings k (o ∷ os) = gone k o ++ goings k os
 
@@ -104,10 +105,10 @@ gone_by true five o body = refl
 gone_by false true o body = sack_is body
 gone_by false false o body = append-nil (spelled o)
 
-pub goings_written : (k : ℕ) (os : List Plain) → written_by spelled (goings k os) ≡ written_by (going k) os
+pub goings_written : (k : Trim) (os : List Plain) → written_by spelled (goings k os) ≡ written_by (going k) os
 goings_written k [] = refl
 goings_written k (o ∷ os) =
-    written_append spelled (gone k o) (goings k os) ∙ ap (λ (l : List ℕ). l ++ written_by spelled (goings k os)) (gone_by (o.kind == 0) (o.kind == 5) o (take (8 * k) o.body))
+    written_append spelled (gone k o) (goings k os) ∙ ap (λ (l : List ℕ). l ++ written_by spelled (goings k os)) (gone_by (is_left_out k o) (o.kind == 5) o (take (8 * k.blocks) o.body))
     ∙ ap (λ (l : List ℕ). going k o ++ l) (goings_written k os)
 
 -- what holds of the option and of each of selective acknowledgements holds of what is left
@@ -118,11 +119,11 @@ gone_all P false true o [] h k = tt
 gone_all P false true o (b ∷ bs) h k = (k b bs, tt)
 gone_all P false false o body h k = (h refl, tt)
 
-goings_all : (P Q : Plain → Type 0) (k : ℕ) (os : List Plain) → AllByRecursion Q os → ((o : Plain) → Q o → (o.kind == 0) ≡ false → P o) → ((b : ℕ) (bs : List ℕ) → P (record { kind = 5; body = b ∷ bs }))
+goings_all : (P Q : Plain → Type 0) (k : Trim) (os : List Plain) → AllByRecursion Q os → ((o : Plain) → Q o → is_left_out k o ≡ false → P o) → ((b : ℕ) (bs : List ℕ) → P (record { kind = 5; body = b ∷ bs }))
     → AllByRecursion P (goings k os)
 goings_all P Q k [] h one two = tt
 goings_all P Q k (o ∷ os) h one two =
-    all_append P (gone k o) (goings k os) (gone_all P (o.kind == 0) (o.kind == 5) o (take (8 * k) o.body) (λ z. one o h.0 z) two) (goings_all P Q k os h.1 one two)
+    all_append P (gone k o) (goings k os) (gone_all P (is_left_out k o) (o.kind == 5) o (take (8 * k.blocks) o.body) (λ z. one o h.0 z) two) (goings_all P Q k os h.1 one two)
 
 not_zero : (n : ℕ) → (n == 0) ≡ false → 0 < n
 not_zero n e = grind (arith, nat_tests)
@@ -133,10 +134,14 @@ below_two n a b = omega arith
 open_plain : (o : Plain) → IsPlain o → (o.kind == 0) ≡ false → IsOpenPlain o
 open_plain o h z = record { kind = not_zero o.kind z; short = λ two. h.short (below_two o.kind (not_zero o.kind z) two); long = h.long }
 
-pub goings_open : (k : ℕ) (os : List Plain) → AllByRecursion IsPlain os → AllByRecursion IsOpenPlain (goings k os)
-goings_open k os h = goings_all IsOpenPlain IsPlain k os h open_plain (λ b bs. record { kind = omega arith; short = λ e. absurd (omega arith); long = λ e. omega arith })
+or_none : (a b : Bool) → (a || b) ≡ false → (a ≡ false) × (b ≡ false)
+or_none true b e = absurd (cc)
+or_none false b e = (refl, e)
 
-pub goings_not : (kind k : ℕ) (os : List Plain) → (5 == kind) ≡ false → AllByRecursion (IsNot kind) os → AllByRecursion (IsNot kind) (goings k os)
+pub goings_open : (k : Trim) (os : List Plain) → AllByRecursion IsPlain os → AllByRecursion IsOpenPlain (goings k os)
+goings_open k os h = goings_all IsOpenPlain IsPlain k os h (λ o is z. open_plain o is (or_none (o.kind == 0) _ z).0) (λ b bs. record { kind = omega arith; short = λ e. absurd (omega arith); long = λ e. omega arith })
+
+pub goings_not : (kind : ℕ) (k : Trim) (os : List Plain) → (5 == kind) ≡ false → AllByRecursion (IsNot kind) os → AllByRecursion (IsNot kind) (goings k os)
 goings_not kind k os five h = goings_all (IsNot kind) (IsNot kind) k os h (λ o is z. is) (λ b bs. five)
 
 -- ---- what was read is so
@@ -159,10 +164,6 @@ area_plains list tail bytes (inr b) =
 
 pub listed_plain : (area : List ℕ) → AreListed (options_of area) → AllByRecursion IsPlain (plains (listed (options_of area)))
 listed_plain area h = let a = area_of area h in area_plains (listed (options_of area)) a.0 area a.1
-
-or_none : (a b : Bool) → (a || b) ≡ false → (a ≡ false) × (b ≡ false)
-or_none true b e = absurd (cc)
-or_none false b e = (refl, e)
 
 pub unsigned : (os : List Plain) → list_any signs os ≡ false → AllByRecursion (IsNot 29) os × AllByRecursion (IsNot 19) os
 unsigned [] e = (tt, tt)
@@ -189,10 +190,10 @@ abbrev pub ao_plain : Sending → List ℕ → Plain
 ao_plain s code = record { kind = 29; body = s.key_id ∷ s.rnext_key_id ∷ code }
 
 -- the options of an area that goes out, with as many paddings, and TCP-AO after them
-abbrev pub front : ℕ → ℕ → List Plain → List Plain
+abbrev pub front : Trim → ℕ → List Plain → List Plain
 front k n os = goings k os ++ replicate n nop
 
-pub front_written : (k n : ℕ) (os : List Plain) → written_by spelled (front k n os) ≡ written_by (going k) os ++ replicate n 1
+pub front_written : (k : Trim) (n : ℕ) (os : List Plain) → written_by spelled (front k n os) ≡ written_by (going k) os ++ replicate n 1
 front_written k n os =
     written_append spelled (goings k os) (replicate n nop) ∙ ap (λ (l : List ℕ). l ++ written_by spelled (replicate n nop)) (goings_written k os)
     ∙ ap (λ (l : List ℕ). written_by (going k) os ++ l) (nops_written n)
@@ -202,27 +203,27 @@ ao_written s code =
     let e : 2 + length (s.key_id ∷ s.rnext_key_id ∷ code) ≡ 4 + length code = omega arith in
     append-nil (spelled (ao_plain s code)) ∙ ap (λ (n : ℕ). 29 ∷ n ∷ s.key_id ∷ s.rnext_key_id ∷ code) e
 
-pub whole_written : (k n : ℕ) (os : List Plain) (s : Sending) (code : List ℕ)
+pub whole_written : (k : Trim) (n : ℕ) (os : List Plain) (s : Sending) (code : List ℕ)
     → written_by spelled (front k n os ++ ao_plain s code ∷ []) ≡ (written_by (going k) os ++ replicate n 1) ++ ao_bytes s code
 whole_written k n os s code =
     written_append spelled (front k n os) (ao_plain s code ∷ []) ∙ ap (λ (l : List ℕ). l ++ written_by spelled (ao_plain s code ∷ [])) (front_written k n os)
     ∙ ap (λ (l : List ℕ). (written_by (going k) os ++ replicate n 1) ++ l) (ao_written s code)
 
-pub whole_open : (k n : ℕ) (os : List Plain) (s : Sending) (code : List ℕ) → AllByRecursion IsPlain os → AllByRecursion IsOpenPlain (front k n os ++ ao_plain s code ∷ [])
+pub whole_open : (k : Trim) (n : ℕ) (os : List Plain) (s : Sending) (code : List ℕ) → AllByRecursion IsPlain os → AllByRecursion IsOpenPlain (front k n os ++ ao_plain s code ∷ [])
 whole_open k n os s code h =
     all_append IsOpenPlain (front k n os) (ao_plain s code ∷ [])
     (all_append IsOpenPlain (goings k os) (replicate n nop) (goings_open k os h) (nops_all IsOpenPlain n (record { kind = omega arith; short = λ e. refl; long = λ e. absurd (omega arith) })))
     ((record { kind = omega arith; short = λ e. absurd (omega arith); long = λ e. omega arith }, tt))
 
-pub front_open : (k n : ℕ) (os : List Plain) → AllByRecursion IsPlain os → AllByRecursion IsOpenPlain (front k n os)
+pub front_open : (k : Trim) (n : ℕ) (os : List Plain) → AllByRecursion IsPlain os → AllByRecursion IsOpenPlain (front k n os)
 front_open k n os h =
     all_append IsOpenPlain (goings k os) (replicate n nop) (goings_open k os h) (nops_all IsOpenPlain n (record { kind = omega arith; short = λ e. refl; long = λ e. absurd (omega arith) }))
 
-pub front_not : (kind k n : ℕ) (os : List Plain) → (5 == kind) ≡ false → (1 == kind) ≡ false → AllByRecursion (IsNot kind) os → AllByRecursion (IsNot kind) (front k n os)
+pub front_not : (kind : ℕ) (k : Trim) (n : ℕ) (os : List Plain) → (5 == kind) ≡ false → (1 == kind) ≡ false → AllByRecursion (IsNot kind) os → AllByRecursion (IsNot kind) (front k n os)
 front_not kind k n os five one h = all_append (IsNot kind) (goings k os) (replicate n nop) (goings_not kind k os five h) (nops_all (IsNot kind) n one)
 
 -- the TCP-AO option that stands last is found
-pub ao_found : (k n : ℕ) (os : List Plain) (s : Sending) (code : List ℕ) → AllByRecursion IsPlain os → list_any signs os ≡ false
+pub ao_found : (k : Trim) (n : ℕ) (os : List Plain) (s : Sending) (code : List ℕ) → AllByRecursion IsPlain os → list_any signs os ≡ false
     → find_ao ((written_by (going k) os ++ replicate n 1) ++ ao_bytes s code) ≡ One (ao_last (written_by (going k) os ++ replicate n 1) s code)
 unfolding find_ao
 ao_found k n os s code h none =

@@ -1,5 +1,5 @@
 -- What comes in of an area doesn't depend on the MAC in it.
-use Rattle.std.proofs.Common.{◌≡◌, ℕ, ◌+◌, ◌-◌, ◌≤◌, ◌==◌, ◌||◌, Bool, true, false, List, [], ◌∷◌, ◌++◌, length, take, drop, replicate, slice_index, refl, sym, ap, subst, ◌∙◌, arith, append_assoc, length-append, if◌then◌else◌, inl, inr}
+use Rattle.std.proofs.Common.{◌≡◌, ℕ, ◌+◌, ◌-◌, ◌≤◌, ◌==◌, ◌||◌, Bool, true, false, Option, List, [], ◌∷◌, ◌++◌, length, take, drop, replicate, slice_index, refl, sym, ap, subst, ◌∙◌, arith, append_assoc, length-append, if◌then◌else◌, inl, inr}
 use Rattle.std.proofs.lemmas.List.{append-nil, length-replicate}
 use Rattle.std.proofs.lemmas.Bool.Decides.{nat_tests}
 use Rattle.book_segments.specs.Areas.{spell_option, spell_options, IsOpen, Open, ending, Area}
@@ -174,23 +174,23 @@ ao_none : (b : Bool) (x : List ℕ) → (if b || true then [] else x) ≡ []
 ao_none true x = refl
 ao_none false x = refl
 
-comes_none : (syn : Bool) (o : Plain) → o.kind ≡ 29 → coming syn o ≡ []
-comes_none syn o k = rw k refl
+comes_none : (most : Option ℕ) (o : Plain) → o.kind ≡ 29 → coming most o ≡ []
+comes_none most o k = rw k refl
 
-written_split : (syn : Bool) (xs ys : List Opt) (o : Opt) → o.kind ≡ 29
-    → written_by (coming syn) (plains (xs ++ o ∷ ys)) ≡ written_by (coming syn) (plains xs) ++ written_by (coming syn) (plains ys)
-written_split syn xs ys o k =
+written_split : (most : Option ℕ) (xs ys : List Opt) (o : Opt) → o.kind ≡ 29
+    → written_by (coming most) (plains (xs ++ o ∷ ys)) ≡ written_by (coming most) (plains xs) ++ written_by (coming most) (plains ys)
+written_split most xs ys o k =
     let p : Plain = record { kind = o.kind; body = o.body } in
-    ap (written_by (coming syn)) (plains_append xs (o ∷ ys)) ∙ written_append (coming syn) (plains xs) (p ∷ plains ys)
-    ∙ ap (λ (l : List ℕ). written_by (coming syn) (plains xs) ++ (l ++ written_by (coming syn) (plains ys))) (comes_none syn p k)
+    ap (written_by (coming most)) (plains_append xs (o ∷ ys)) ∙ written_append (coming most) (plains xs) (p ∷ plains ys)
+    ∙ ap (λ (l : List ℕ). written_by (coming most) (plains xs) ++ (l ++ written_by (coming most) (plains ys))) (comes_none most p k)
 
-rewritten_listed : (syn : Bool) (area : List ℕ) (list : List Opt) → options_of area ≡ Listed list → coming_area syn area ≡ in_words (written_by (coming syn) (plains list))
+rewritten_listed : (most : Option ℕ) (area : List ℕ) (list : List Opt) → options_of area ≡ Listed list → coming_area most area ≡ in_words (written_by (coming most) (plains list))
 unfolding rewritten
-rewritten_listed syn area list e = ap (λ (o : Options). in_words (written_by (coming syn) (plains (listed o)))) e
+rewritten_listed most area list e = ap (λ (o : Options). in_words (written_by (coming most) (plains (listed o)))) e
 
-same_by : (syn : Bool) (list : List Opt) (area : List ℕ) (o : Opt) (ao : Ao) → Area list [] area → of_kind 29 list ≡ o ∷ [] → ao_of o ≡ ao → Open 0 list → area ≡ spell_options list
-    → coming_area syn (covered true area ao) ≡ coming_area syn area
-same_by syn list area o ao a e is h bytes =
+same_by : (most : Option ℕ) (list : List Opt) (area : List ℕ) (o : Opt) (ao : Ao) → Area list [] area → of_kind 29 list ≡ o ∷ [] → ao_of o ≡ ao → Open 0 list → area ≡ spell_options list
+    → coming_area most (covered true area ao) ≡ coming_area most area
+same_by most list area o ao a e is h bytes =
     let i = among 0 list o h e in
     let two = body_two o i.kind i.open_o in
     let new = i.before ++ zeroed o ∷ i.after in
@@ -199,14 +199,14 @@ same_by syn list area o ao a e is h bytes =
     ap (λ (l : List ℕ). covered true l ao) (bytes ∙ sym (append-nil (spell_options list))) ∙ covers list [] o ao i is ∙ append-nil (spell_options new) in
     let one = area_is new [] (covered true area ao) (inl ((open_new, refl, c))) in
     let two_is = area_is list [] area a in
-    rewritten_listed syn (covered true area ao) new one
-    ∙ ap in_words (written_split syn i.before i.after (zeroed o) refl ∙ sym (ap (λ (l : List Opt). written_by (coming syn) (plains l)) i.list_is ∙ written_split syn i.before i.after o i.kind))
-    ∙ sym (rewritten_listed syn area list two_is)
+    rewritten_listed most (covered true area ao) new one
+    ∙ ap in_words (written_split most i.before i.after (zeroed o) refl ∙ sym (ap (λ (l : List Opt). written_by (coming most) (plains l)) i.list_is ∙ written_split most i.before i.after o i.kind))
+    ∙ sym (rewritten_listed most area list two_is)
 
-same_ended : (syn : Bool) (before : List Opt) (tail area : List ℕ) (o : Opt) (ao : Ao) (last : Opt) → last ≡ ending (0 + length (spell_options before)) → Area (before ++ last ∷ []) tail area
+same_ended : (most : Option ℕ) (before : List Opt) (tail area : List ℕ) (o : Opt) (ao : Ao) (last : Opt) → last ≡ ending (0 + length (spell_options before)) → Area (before ++ last ∷ []) tail area
     → of_kind 29 before ≡ o ∷ [] → ao_of o ≡ ao → Open 0 before → area ≡ spell_options before ++ 0 ∷ tail
-    → coming_area syn (covered true area ao) ≡ coming_area syn area
-same_ended syn before tail area o ao last last_is a e is h bytes =
+    → coming_area most (covered true area ao) ≡ coming_area most area
+same_ended most before tail area o ao last last_is a e is h bytes =
     let i = among 0 before o h e in
     let two = body_two o i.kind i.open_o in
     let new = i.before ++ zeroed o ∷ i.after in
@@ -216,35 +216,35 @@ same_ended syn before tail area o ao last last_is a e is h bytes =
     let one = area_is (new ++ end ∷ []) tail (covered true area ao) (inr ((new, open_new, refl, c))) in
     let two_is = area_is (before ++ last ∷ []) tail area a in
     let p : Plain = record { kind = 0; body = [] } in
-    let front : written_by (coming syn) (plains (new ++ end ∷ [])) ≡ written_by (coming syn) (plains new) ++ [] =
-    ap (written_by (coming syn)) (plains_append new (end ∷ [])) ∙ written_append (coming syn) (plains new) (plains (end ∷ [])) in
-    let back : written_by (coming syn) (plains (before ++ last ∷ [])) ≡ written_by (coming syn) (plains before) ++ [] =
-    ap (λ (x : Opt). written_by (coming syn) (plains (before ++ x ∷ []))) last_is
-    ∙ ap (written_by (coming syn)) (plains_append before (ending (0 + length (spell_options before)) ∷ []))
-    ∙ written_append (coming syn) (plains before) (plains (ending (0 + length (spell_options before)) ∷ [])) in
-    let same : written_by (coming syn) (plains new) ≡ written_by (coming syn) (plains before) =
-    written_split syn i.before i.after (zeroed o) refl ∙ sym (ap (λ (l : List Opt). written_by (coming syn) (plains l)) i.list_is ∙ written_split syn i.before i.after o i.kind) in
-    rewritten_listed syn (covered true area ao) (new ++ end ∷ []) one
+    let front : written_by (coming most) (plains (new ++ end ∷ [])) ≡ written_by (coming most) (plains new) ++ [] =
+    ap (written_by (coming most)) (plains_append new (end ∷ [])) ∙ written_append (coming most) (plains new) (plains (end ∷ [])) in
+    let back : written_by (coming most) (plains (before ++ last ∷ [])) ≡ written_by (coming most) (plains before) ++ [] =
+    ap (λ (x : Opt). written_by (coming most) (plains (before ++ x ∷ []))) last_is
+    ∙ ap (written_by (coming most)) (plains_append before (ending (0 + length (spell_options before)) ∷ []))
+    ∙ written_append (coming most) (plains before) (plains (ending (0 + length (spell_options before)) ∷ [])) in
+    let same : written_by (coming most) (plains new) ≡ written_by (coming most) (plains before) =
+    written_split most i.before i.after (zeroed o) refl ∙ sym (ap (λ (l : List Opt). written_by (coming most) (plains l)) i.list_is ∙ written_split most i.before i.after o i.kind) in
+    rewritten_listed most (covered true area ao) (new ++ end ∷ []) one
     ∙ ap in_words (front ∙ ap (λ (l : List ℕ). l ++ []) same ∙ sym back)
-    ∙ sym (rewritten_listed syn area (before ++ last ∷ []) two_is)
+    ∙ sym (rewritten_listed most area (before ++ last ∷ []) two_is)
 
 kind_last : (before : List Opt) (last : Opt) → last.kind ≡ 0 → of_kind 29 (before ++ last ∷ []) ≡ of_kind 29 before
 kind_last before last k =
     let none : of_kind 29 (last ∷ []) ≡ [] = rw k refl in
     kind_append 29 before (last ∷ []) ∙ ap (λ (l : List Opt). of_kind 29 before ++ l) none ∙ append-nil (of_kind 29 before)
 
-by_area : (syn : Bool) (list : List Opt) (tail area : List ℕ) (o : Opt) (ao : Ao) → Area list tail area → of_kind 29 list ≡ o ∷ [] → ao_of o ≡ ao
-    → coming_area syn (covered true area ao) ≡ coming_area syn area
-by_area syn list tail area o ao (inl a) e is = same_by syn list area o ao (inl ((a.0, refl, a.2))) e is a.0 a.2
-by_area syn list tail area o ao (inr b) e is =
+by_area : (most : Option ℕ) (list : List Opt) (tail area : List ℕ) (o : Opt) (ao : Ao) → Area list tail area → of_kind 29 list ≡ o ∷ [] → ao_of o ≡ ao
+    → coming_area most (covered true area ao) ≡ coming_area most area
+by_area most list tail area o ao (inl a) e is = same_by most list area o ao (inl ((a.0, refl, a.2))) e is a.0 a.2
+by_area most list tail area o ao (inr b) e is =
     let last : Opt = ending (0 + length (spell_options b.0)) in
     let ours : of_kind 29 b.0 ≡ o ∷ [] = sym (kind_last b.0 last refl) ∙ ap (of_kind 29) (sym b.2) ∙ e in
-    same_ended syn b.0 tail area o ao last refl (inr ((b.0, b.1, refl, b.3))) ours is b.1 b.3
+    same_ended most b.0 tail area o ao last refl (inr ((b.0, b.1, refl, b.3))) ours is b.1 b.3
 
 -- what comes in of an area is what comes in of it with its MAC zero
-pub comes_blank : (syn : Bool) (area : List ℕ) (ao : Ao) → AreListed (options_of area) → find_ao area ≡ One ao → coming_area syn (covered true area ao) ≡ coming_area syn area
+pub comes_blank : (most : Option ℕ) (area : List ℕ) (ao : Ao) → AreListed (options_of area) → find_ao area ≡ One ao → coming_area most (covered true area ao) ≡ coming_area most area
 unfolding find_ao
-comes_blank syn area ao l e =
+comes_blank most area ao l e =
     let a = area_of area l in
     let f = found_one (of_kind 29 (listed (options_of area))) (of_kind 19 (listed (options_of area))) ao e in
-    by_area syn (listed (options_of area)) a.0 area f.option ao a.1 f.ours_is f.ao_is
+    by_area most (listed (options_of area)) a.0 area f.option ao a.1 f.ours_is f.ao_is

@@ -23,9 +23,9 @@ use Rattle.book_shim.specs.declared.refusal.Unsent.{Unsent}
 use Rattle.book_shim.specs.declared.refusal.Unsent.TheVariants.{NoContext}
 use Rattle.book_shim.specs.declared.refusal.Untaken.{Untaken}
 use Rattle.book_shim.specs.declared.refusal.Untaken.TheVariants.{Refused}
-use Rattle.book_shim.specs.Keeping.{fresh}
-use Rattle.book_shim.specs.Relaying.{rewritten, fitted, relaid}
-use Rattle.book_shim.specs.Leaving.{Sealed, send_sealed, outbound}
+use Rattle.book_shim.specs.Keeping.{Setting, fresh}
+use Rattle.book_shim.specs.Relaying.{rewritten, fitted_from, fitted, lowered, relaid}
+use Rattle.book_shim.specs.Leaving.{Sealed, send_within, outbound}
 use Rattle.book_shim.specs.Arriving.{Opened, judged_arrival, take_in, inbound}
 
 -- what a guard keeps, and the bytes that it hands on
@@ -75,6 +75,10 @@ rows_at_client = key_row 61 84
 abbrev pub rows_at_server : List Row
 rows_at_server = key_row 84 61
 
+-- under these rows, the own device taking 1,500 bytes
+abbrev pub under : List Row → Setting
+under rows = record { rows = rows; now = 0; mtu = 1500 }
+
 -- the initial sequence numbers
 abbrev pub client_isn : ℕ
 client_isn = 4227574618
@@ -84,19 +88,19 @@ server_isn = 297878113
 
 -- the client once its SYN is out
 abbrev pub client_opening : Kept
-client_opening = record { opening = Some client_isn; isns = None; knocking = None; sent = 0; heard = 0; current = Some 1 }
+client_opening = record { opening = Some client_isn; isns = None; sent = 0; heard = 0; current = Some 1 }
 
--- the server once the SYN knocks
-abbrev pub server_knocked : Kept
-server_knocked = record { opening = None; isns = None; knocking = Some client_isn; sent = 0; heard = 0; current = Some 1 }
+-- the server once the SYN passed, which asks for a key
+abbrev pub server_asked : Kept
+server_asked = record { opening = None; isns = None; sent = 0; heard = 0; current = Some 1 }
 
 -- the server once its SYN with ACK is out
 abbrev pub server_joined : Kept
-server_joined = record { opening = None; isns = Some (record { own = server_isn; peer = client_isn }); knocking = None; sent = server_isn + 1; heard = client_isn + 1; current = Some 1 }
+server_joined = record { opening = None; isns = Some (record { own = server_isn; peer = client_isn }); sent = server_isn + 1; heard = client_isn + 1; current = Some 1 }
 
 -- the client once it heard it
 abbrev pub client_joined : Kept
-client_joined = record { opening = None; isns = Some (record { own = client_isn; peer = server_isn }); knocking = None; sent = client_isn + 1; heard = server_isn + 1; current = Some 1 }
+client_joined = record { opening = None; isns = Some (record { own = client_isn; peer = server_isn }); sent = client_isn + 1; heard = server_isn + 1; current = Some 1 }
 
 -- RFC 9235, section 4.1, the TCP checksum set right
 abbrev pub sealed_syn : List ℕ
@@ -141,64 +145,79 @@ times_and_sacks = 1 ∷ 1 ∷ 8 ∷ 10 ∷ 1 ∷ 2 ∷ 3 ∷ 4 ∷ 5 ∷ 6 ∷ 7
 abbrev pub times_and_sack : List ℕ
 times_and_sack = 1 ∷ 1 ∷ 8 ∷ 10 ∷ 1 ∷ 2 ∷ 3 ∷ 4 ∷ 5 ∷ 6 ∷ 7 ∷ 8 ∷ 1 ∷ 1 ∷ 5 ∷ 10 ∷ 0 ∷ 0 ∷ 0 ∷ 1 ∷ 0 ∷ 0 ∷ 0 ∷ 2 ∷ []
 
--- padding fills up to whole words
-abbrev pub times_alone : List ℕ
-times_alone = 1 ∷ 1 ∷ 8 ∷ 10 ∷ 1 ∷ 2 ∷ 3 ∷ 4 ∷ 5 ∷ 6 ∷ 7 ∷ 8 ∷ 1 ∷ 1 ∷ 1 ∷ 1 ∷ []
+abbrev pub times_and_sack_packed : List ℕ
+times_and_sack_packed = 8 ∷ 10 ∷ 1 ∷ 2 ∷ 3 ∷ 4 ∷ 5 ∷ 6 ∷ 7 ∷ 8 ∷ 5 ∷ 10 ∷ 0 ∷ 0 ∷ 0 ∷ 1 ∷ 0 ∷ 0 ∷ 0 ∷ 2 ∷ []
+
+-- of a SYN with ACK: a maximum segment size, permission to acknowledge selectively, a window scale, and multipath
+abbrev pub syn_with_multipath : List ℕ
+syn_with_multipath = 2 ∷ 4 ∷ 5 ∷ 180 ∷ 4 ∷ 2 ∷ 1 ∷ 3 ∷ 3 ∷ 7 ∷ 1 ∷ 1 ∷ 30 ∷ 12 ∷ 1 ∷ 1 ∷ 1 ∷ 2 ∷ 3 ∷ 4 ∷ 5 ∷ 6 ∷ 7 ∷ 8 ∷ []
+
+abbrev pub syn_without_multipath : List ℕ
+syn_without_multipath = 2 ∷ 4 ∷ 5 ∷ 180 ∷ 4 ∷ 2 ∷ 1 ∷ 3 ∷ 3 ∷ 7 ∷ 1 ∷ 1 ∷ []
 
 abbrev pub long_body : List ℕ
 long_body = replicate 38 7
 
 -- the client's SYN goes out as 4.1.1
-pub syn_sealed : sent_as (outbound rows_at_client at_client 0 fresh plain_syn) ≡ Ok (record { kept = client_opening; bytes = sealed_syn })
-unfolding sha1 digest_bytes hash_after compress rounds schedule first_words put2 put4 meant options_of find_ao sums complement_of pseudo header tcp_bytes checksum_of good spell first_fault fields reading block_key hmac context context_of mac_input traffic_key mac choose follow judge rewritten fitted relaid send_sealed judged_arrival take_in
+pub syn_sealed : sent_as (outbound (under rows_at_client) at_client fresh plain_syn) ≡ Ok (record { kept = client_opening; bytes = sealed_syn })
+unfolding sha1 digest_bytes hash_after compress rounds schedule first_words put2 put4 meant options_of find_ao sums complement_of pseudo header tcp_bytes checksum_of good spell first_fault fields reading block_key hmac context context_of mac_input traffic_key mac choose follow judge rewritten fitted_from relaid send_within judged_arrival take_in
 syn_sealed = refl
 
 -- it comes in at the server
-pub syn_opened : taken_as (inbound rows_at_server at_server 0 fresh sealed_syn) ≡ Ok (record { kept = server_knocked; bytes = taken_syn })
-unfolding sha1 digest_bytes hash_after compress rounds schedule first_words put2 put4 meant options_of find_ao sums complement_of pseudo header tcp_bytes checksum_of good spell first_fault fields reading block_key hmac context context_of mac_input traffic_key mac choose follow judge rewritten fitted relaid send_sealed judged_arrival take_in
+pub syn_opened : taken_as (inbound (under rows_at_server) at_server fresh sealed_syn) ≡ Ok (record { kept = server_asked; bytes = taken_syn })
+unfolding sha1 digest_bytes hash_after compress rounds schedule first_words put2 put4 meant options_of find_ao sums complement_of pseudo header tcp_bytes checksum_of good spell first_fault fields reading block_key hmac context context_of mac_input traffic_key mac choose follow judge rewritten fitted_from relaid send_within judged_arrival take_in
 syn_opened = refl
 
 -- the server's SYN with ACK goes out as 4.1.2
-pub syn_ack_sealed : sent_as (outbound rows_at_server at_server 0 server_knocked plain_syn_ack) ≡ Ok (record { kept = server_joined; bytes = sealed_syn_ack })
-unfolding sha1 digest_bytes hash_after compress rounds schedule first_words put2 put4 meant options_of find_ao sums complement_of pseudo header tcp_bytes checksum_of good spell first_fault fields reading block_key hmac context context_of mac_input traffic_key mac choose follow judge rewritten fitted relaid send_sealed judged_arrival take_in
+pub syn_ack_sealed : sent_as (outbound (under rows_at_server) at_server server_asked plain_syn_ack) ≡ Ok (record { kept = server_joined; bytes = sealed_syn_ack })
+unfolding sha1 digest_bytes hash_after compress rounds schedule first_words put2 put4 meant options_of find_ao sums complement_of pseudo header tcp_bytes checksum_of good spell first_fault fields reading block_key hmac context context_of mac_input traffic_key mac choose follow judge rewritten fitted_from relaid send_within judged_arrival take_in
 syn_ack_sealed = refl
 
 -- it comes in at the client
-pub syn_ack_opened : taken_as (inbound rows_at_client at_client 0 client_opening sealed_syn_ack) ≡ Ok (record { kept = client_joined; bytes = taken_syn_ack })
-unfolding sha1 digest_bytes hash_after compress rounds schedule first_words put2 put4 meant options_of find_ao sums complement_of pseudo header tcp_bytes checksum_of good spell first_fault fields reading block_key hmac context context_of mac_input traffic_key mac choose follow judge rewritten fitted relaid send_sealed judged_arrival take_in
+pub syn_ack_opened : taken_as (inbound (under rows_at_client) at_client client_opening sealed_syn_ack) ≡ Ok (record { kept = client_joined; bytes = taken_syn_ack })
+unfolding sha1 digest_bytes hash_after compress rounds schedule first_words put2 put4 meant options_of find_ao sums complement_of pseudo header tcp_bytes checksum_of good spell first_fault fields reading block_key hmac context context_of mac_input traffic_key mac choose follow judge rewritten fitted_from relaid send_within judged_arrival take_in
 syn_ack_opened = refl
 
 -- the client's text goes out as 4.1.3
-pub text_sealed : sent_as (outbound rows_at_client at_client 0 client_joined plain_text) ≡ Ok (record { kept = record client_joined { sent = client_isn + 68 }; bytes = sealed_text })
-unfolding sha1 digest_bytes hash_after compress rounds schedule first_words put2 put4 meant options_of find_ao sums complement_of pseudo header tcp_bytes checksum_of good spell first_fault fields reading block_key hmac context context_of mac_input traffic_key mac choose follow judge rewritten fitted relaid send_sealed judged_arrival take_in
+pub text_sealed : sent_as (outbound (under rows_at_client) at_client client_joined plain_text) ≡ Ok (record { kept = record client_joined { sent = client_isn + 68 }; bytes = sealed_text })
+unfolding sha1 digest_bytes hash_after compress rounds schedule first_words put2 put4 meant options_of find_ao sums complement_of pseudo header tcp_bytes checksum_of good spell first_fault fields reading block_key hmac context context_of mac_input traffic_key mac choose follow judge rewritten fitted_from relaid send_within judged_arrival take_in
 text_sealed = refl
 
 -- it comes in at the server
-pub text_opened : taken_as (inbound rows_at_server at_server 0 server_joined sealed_text) ≡ Ok (record { kept = record server_joined { heard = client_isn + 68 }; bytes = taken_text })
-unfolding sha1 digest_bytes hash_after compress rounds schedule first_words put2 put4 meant options_of find_ao sums complement_of pseudo header tcp_bytes checksum_of good spell first_fault fields reading block_key hmac context context_of mac_input traffic_key mac choose follow judge rewritten fitted relaid send_sealed judged_arrival take_in
+pub text_opened : taken_as (inbound (under rows_at_server) at_server server_joined sealed_text) ≡ Ok (record { kept = record server_joined { heard = client_isn + 68 }; bytes = taken_text })
+unfolding sha1 digest_bytes hash_after compress rounds schedule first_words put2 put4 meant options_of find_ao sums complement_of pseudo header tcp_bytes checksum_of good spell first_fault fields reading block_key hmac context context_of mac_input traffic_key mac choose follow judge rewritten fitted_from relaid send_within judged_arrival take_in
 text_opened = refl
 
 -- before the handshake no text goes out
-pub no_context : sent_as (outbound rows_at_client at_client 0 fresh plain_text) ≡ Err NoContext
-unfolding sha1 digest_bytes hash_after compress rounds schedule first_words put2 put4 meant options_of find_ao sums complement_of pseudo header tcp_bytes checksum_of good spell first_fault fields reading block_key hmac context context_of mac_input traffic_key mac choose follow judge rewritten fitted relaid send_sealed judged_arrival take_in
+pub no_context : sent_as (outbound (under rows_at_client) at_client fresh plain_text) ≡ Err NoContext
+unfolding sha1 digest_bytes hash_after compress rounds schedule first_words put2 put4 meant options_of find_ao sums complement_of pseudo header tcp_bytes checksum_of good spell first_fault fields reading block_key hmac context context_of mac_input traffic_key mac choose follow judge rewritten fitted_from relaid send_within judged_arrival take_in
 no_context = refl
 
 -- a segment without TCP-AO isn't taken
-pub no_option : taken_as (inbound rows_at_server at_server 0 server_joined plain_text) ≡ Err (Refused NoAo)
-unfolding sha1 digest_bytes hash_after compress rounds schedule first_words put2 put4 meant options_of find_ao sums complement_of pseudo header tcp_bytes checksum_of good spell first_fault fields reading block_key hmac context context_of mac_input traffic_key mac choose follow judge rewritten fitted relaid send_sealed judged_arrival take_in
+pub no_option : taken_as (inbound (under rows_at_server) at_server server_joined plain_text) ≡ Err (Refused NoAo)
+unfolding sha1 digest_bytes hash_after compress rounds schedule first_words put2 put4 meant options_of find_ao sums complement_of pseudo header tcp_bytes checksum_of good spell first_fault fields reading block_key hmac context context_of mac_input traffic_key mac choose follow judge rewritten fitted_from relaid send_within judged_arrival take_in
 no_option = refl
 
 -- of three blocks of selective acknowledgements after timestamps the first stays where TCP-AO has 16 bytes
-pub first_block : fitted 24 4 times_and_sacks ≡ Some times_and_sack
-unfolding sha1 digest_bytes hash_after compress rounds schedule first_words put2 put4 meant options_of find_ao sums complement_of pseudo header tcp_bytes checksum_of good spell first_fault fields reading block_key hmac context context_of mac_input traffic_key mac choose follow judge rewritten fitted relaid send_sealed judged_arrival take_in
+pub first_block : fitted 24 times_and_sacks ≡ Some times_and_sack
+unfolding sha1 digest_bytes hash_after compress rounds schedule first_words put2 put4 meant options_of find_ao sums complement_of pseudo header tcp_bytes checksum_of good spell first_fault fields reading block_key hmac context context_of mac_input traffic_key mac choose follow judge rewritten fitted_from relaid send_within judged_arrival take_in
 first_block = refl
 
--- and none where it has 20
-pub no_block : fitted 20 4 times_and_sacks ≡ Some times_alone
-unfolding sha1 digest_bytes hash_after compress rounds schedule first_words put2 put4 meant options_of find_ao sums complement_of pseudo header tcp_bytes checksum_of good spell first_fault fields reading block_key hmac context context_of mac_input traffic_key mac choose follow judge rewritten fitted relaid send_sealed judged_arrival take_in
-no_block = refl
+-- where it has 20 the block stays without what only fills up
+pub packed_block : fitted 20 times_and_sacks ≡ Some times_and_sack_packed
+unfolding sha1 digest_bytes hash_after compress rounds schedule first_words put2 put4 meant options_of find_ao sums complement_of pseudo header tcp_bytes checksum_of good spell first_fault fields reading block_key hmac context context_of mac_input traffic_key mac choose follow judge rewritten fitted_from relaid send_within judged_arrival take_in
+packed_block = refl
+
+-- multipath gives way to TCP-AO, and nothing else does
+pub no_multipath : fitted 20 syn_with_multipath ≡ Some syn_without_multipath
+unfolding sha1 digest_bytes hash_after compress rounds schedule first_words put2 put4 meant options_of find_ao sums complement_of pseudo header tcp_bytes checksum_of good spell first_fault fields reading block_key hmac context context_of mac_input traffic_key mac choose follow judge rewritten fitted_from relaid send_within judged_arrival take_in
+no_multipath = refl
+
+-- a peer with large datagrams is told what the own device takes, less 20
+pub bounded : lowered 1460 (35 ∷ 0 ∷ []) ≡ 1440
+bounded = refl
 
 -- options of 40 bytes of which none may be left out have no room
-pub no_room : fitted 24 4 (254 ∷ 40 ∷ long_body) ≡ None
-unfolding sha1 digest_bytes hash_after compress rounds schedule first_words put2 put4 meant options_of find_ao sums complement_of pseudo header tcp_bytes checksum_of good spell first_fault fields reading block_key hmac context context_of mac_input traffic_key mac choose follow judge rewritten fitted relaid send_sealed judged_arrival take_in
+pub no_room : fitted 24 (254 ∷ 40 ∷ long_body) ≡ None
+unfolding sha1 digest_bytes hash_after compress rounds schedule first_words put2 put4 meant options_of find_ao sums complement_of pseudo header tcp_bytes checksum_of good spell first_fault fields reading block_key hmac context context_of mac_input traffic_key mac choose follow judge rewritten fitted_from relaid send_within judged_arrival take_in
 no_room = refl

@@ -4,18 +4,15 @@ use Rattle.std.proofs.lemmas.Bool.Decides.{nat_tests}
 use Rattle.book_base.specs.declared.address.Pair.{Pair}
 use Rattle.book_base.specs.Results.{◌>>=◌}
 use Rattle.book_segments.specs.Segments.{Segment, has, good, SYN, ACK}
-use Rattle.book_keys.specs.Rows.{Row}
 use Rattle.book_endpoint.specs.declared.verdict.Verdict.TheVariants.{NoContext as Nothing}
 use Rattle.book_endpoint.specs.Verdicts.{Finding, Judgement, judge}
 use Rattle.book_shim.specs.declared.kept.Isns.{Isns}
 use Rattle.book_shim.specs.declared.kept.Kept.{Kept}
-use Rattle.book_shim.specs.declared.refusal.Unsent.{Unsent}
-use Rattle.book_shim.specs.declared.refusal.Unsent.TheVariants.{NoContext}
 use Rattle.book_shim.specs.declared.refusal.Untaken.{Untaken}
 use Rattle.book_shim.specs.declared.refusal.Untaken.TheVariants.{Checksum}
-use Rattle.book_shim.specs.Keeping.{is_the_number, are_isns, is_opening_syn, answered_isn, connection_begun, demand}
-use Rattle.book_shim.specs.Leaving.{Sealed, send_sealed, entered, accepting, past_sent, opening}
-use Rattle.book_shim.specs.Arriving.{Opened, take_in, as_taken, judged_arrival, is_awaited, known_for, joined, admitted, past_heard, handed_on, knocked}
+use Rattle.book_shim.specs.Keeping.{Setting, is_the_number, are_isns, is_opening_syn, answered_isn, connection_begun, demand}
+use Rattle.book_shim.specs.Leaving.{Sealed, send_sealed, entered, accepting, past_sent}
+use Rattle.book_shim.specs.Arriving.{Opened, take_in, as_taken, judged_arrival, is_awaited, known_for, joined, admitted, past_heard, handed_on}
 use Rattle.law_shim.proofs.Sealing.{bind_ok, sends, IsSealed, takes, IsOpened}
 
 -- these numbers
@@ -38,17 +35,12 @@ isns_are (Some c) own peer e =
     let p = eq_is c.peer peer t.1 in
     ap (λ (x : ℕ). these x c.peer) o ∙ ap (λ (x : ℕ). these own x) p
 
-ok_kept : (a b : Kept) → ◌≡◌ {A = Result Kept Unsent} (Ok a) (Ok b) → a ≡ b
-ok_kept a b e = cc
+accepts_by : (b : Bool) (g : Kept) (own peer : ℕ) → are_isns g.isns own peer ≡ b → (if b then g else connection_begun g own peer).isns ≡ these own peer
+accepts_by true g own peer t = isns_are g.isns own peer t
+accepts_by false g own peer t = refl
 
-accepts_by : (one two : Bool) (g e : Kept) (own peer : ℕ) → are_isns g.isns own peer ≡ one → (if one then Ok g else (if two then Ok (connection_begun g own peer) else Err NoContext)) ≡ Ok e
-    → e.isns ≡ these own peer
-accepts_by true two g e own peer t h = ap (λ (k : Kept). k.isns) (sym (ok_kept g e h)) ∙ isns_are g.isns own peer t
-accepts_by false true g e own peer t h = ap (λ (k : Kept). k.isns) (sym (ok_kept (connection_begun g own peer) e h))
-accepts_by false false g e own peer t h = absurd (cc)
-
-entered_by : (g : Kept) (d : Segment) (e : Kept) → has SYN d ≡ true → has ACK d ≡ true → entered g d ≡ Ok e → accepting g d.sequence (answered_isn d) ≡ Ok e
-entered_by g d e s a h = sym (rw (s, a) refl) ∙ h
+entered_by : (g : Kept) (d : Segment) → has SYN d ≡ true → has ACK d ≡ true → entered g d ≡ accepting g d.sequence (answered_isn d)
+entered_by g d s a = rw (s, a) refl
 
 past_isns : (b : Bool) (g : Kept) (n : ℕ) → (if b then g else record g { sent = n }).isns ≡ g.isns
 past_isns true g n = refl
@@ -58,32 +50,31 @@ heard_isns : (b : Bool) (g : Kept) (n : ℕ) → (if b then g else record g { he
 heard_isns true g n = refl
 heard_isns false g n = refl
 
-pub sealed_mirrors : (rows : List Row) (pair : Pair) (now : ℕ) (g : Kept) (d : Segment) (m : Sealed) → send_sealed rows pair now g d ≡ Ok m → has SYN d ≡ true → has ACK d ≡ true
+pub sealed_mirrors : (here : Setting) (pair : Pair) (g : Kept) (d : Segment) (m : Sealed) → send_sealed here pair g d ≡ Ok m → has SYN d ≡ true → has ACK d ≡ true
     → m.kept.isns ≡ these d.sequence (answered_isn d)
-sealed_mirrors rows pair now g d m h s a =
-    let z = sends rows pair now g d m h in
-    let e = z.entering in
-    ap (λ (x : Sealed). x.kept.isns) z.sent_is ∙ past_isns (is_opening_syn d) e _
-    ∙ accepts_by (are_isns g.isns d.sequence (answered_isn d)) (is_the_number g.knocking (answered_isn d)) g e d.sequence (answered_isn d) refl (entered_by g d e s a z.entered_so)
+sealed_mirrors here pair g d m h s a =
+    let z = sends here pair g d m h in
+    ap (λ (x : Sealed). x.kept.isns) z.sent_is ∙ past_isns (is_opening_syn d) (entered g d) _
+    ∙ ap (λ (k : Kept). k.isns) (entered_by g d s a) ∙ accepts_by (are_isns g.isns d.sequence (answered_isn d)) g d.sequence (answered_isn d) refl
 
 tested : (b : Bool) (j : Judgement) (p : Finding) → ◌≡◌ {A = Judgement} (if b then Err Nothing else j) (Ok p) → b ≡ false
 tested true j p e = absurd (cc)
 tested false j p e = refl
 
-awaited_if : (rows : List Row) (pair : Pair) (now : ℕ) (g : Kept) (d : Segment) (p : Finding) → judged_arrival rows pair now g d ≡ Ok p → (has SYN d && has ACK d && not (is_awaited g d)) ≡ false
+awaited_if : (here : Setting) (pair : Pair) (g : Kept) (d : Segment) (p : Finding) → judged_arrival here pair g d ≡ Ok p → (has SYN d && has ACK d && not (is_awaited g d)) ≡ false
 unfolding judged_arrival
-awaited_if rows pair now g d p e = tested (has SYN d && has ACK d && not (is_awaited g d)) (judge rows pair (known_for g d) now d) p e
+awaited_if here pair g d p e = tested (has SYN d && has ACK d && not (is_awaited g d)) (judge here.rows pair (known_for g d) here.now d) p e
 
 passed_is : (j : Judgement) (p : Finding) → as_taken j ≡ Ok p → j ≡ Ok p
 passed_is (Ok q) p e = let s : q ≡ p = cc in ap (λ (x : Finding). let r : Judgement = Ok x in r) s
 passed_is (Err why) p e = absurd (cc)
 
-awaited_in : (rows : List Row) (pair : Pair) (now : ℕ) (g : Kept) (d : Segment) (t : Opened) → take_in rows pair now g d ≡ Ok t → (has SYN d && has ACK d && not (is_awaited g d)) ≡ false
+awaited_in : (here : Setting) (pair : Pair) (g : Kept) (d : Segment) (t : Opened) → take_in here pair g d ≡ Ok t → (has SYN d && has ACK d && not (is_awaited g d)) ≡ false
 unfolding take_in
-awaited_in rows pair now g d t h =
+awaited_in here pair g d t h =
     let b1 = bind_ok (demand (good d) Checksum) _ t h in
-    let b2 = bind_ok (as_taken (judged_arrival rows pair now g d)) _ t b1.2 in
-    awaited_if rows pair now g d b2.0 (passed_is (judged_arrival rows pair now g d) b2.0 b2.1)
+    let b2 = bind_ok (as_taken (judged_arrival here pair g d)) _ t b1.2 in
+    awaited_if here pair g d b2.0 (passed_is (judged_arrival here pair g d) b2.0 b2.1)
 
 is_so : (a b c : Bool) → a ≡ true → b ≡ true → (a && b && not c) ≡ false → c ≡ true
 is_so true true true s k e = refl
@@ -98,10 +89,10 @@ joins_by false g own peer h = isns_are g.isns own peer h
 admitted_by : (g : Kept) (d : Segment) → has SYN d ≡ true → has ACK d ≡ true → admitted g d ≡ joined g (answered_isn d) d.sequence
 admitted_by g d s a = rw (s, a) refl
 
-pub taken_mirrors : (rows : List Row) (pair : Pair) (now : ℕ) (g : Kept) (d : Segment) (t : Opened) → take_in rows pair now g d ≡ Ok t → has SYN d ≡ true → has ACK d ≡ true
+pub taken_mirrors : (here : Setting) (pair : Pair) (g : Kept) (d : Segment) (t : Opened) → take_in here pair g d ≡ Ok t → has SYN d ≡ true → has ACK d ≡ true
     → t.kept.isns ≡ these (answered_isn d) d.sequence
-taken_mirrors rows pair now g d t h s a =
-    let w = takes rows pair now g d t h in
-    let await = is_so (has SYN d) (has ACK d) (is_awaited g d) s a (awaited_in rows pair now g d t h) in
+taken_mirrors here pair g d t h s a =
+    let w = takes here pair g d t h in
+    let await = is_so (has SYN d) (has ACK d) (is_awaited g d) s a (awaited_in here pair g d t h) in
     ap (λ (x : Opened). x.kept.isns) w.taken_is ∙ heard_isns (is_opening_syn d) (admitted g d) _
     ∙ ap (λ (k : Kept). k.isns) (admitted_by g d s a) ∙ joins_by (is_the_number g.opening (answered_isn d)) g (answered_isn d) d.sequence await

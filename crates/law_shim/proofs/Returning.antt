@@ -25,16 +25,17 @@ use Rattle.book_endpoint.specs.Emissions.{ao_length}
 use Rattle.book_endpoint.specs.Arrivals.{from_peer}
 use Rattle.book_shim.specs.declared.kept.Kept.{Kept}
 use Rattle.book_shim.specs.declared.refusal.Untaken.TheVariants.{Checksum}
-use Rattle.book_shim.specs.Keeping.{demand}
-use Rattle.book_shim.specs.Relaying.{spelled, going, coming, written_by, in_words, rewritten, fitted, relaid, with_area, length_in_header, coming_area}
-use Rattle.book_shim.specs.Leaving.{Sealed, signs, send_sealed, with_ao, ao_bytes, ao_last, no_code, input_for, code_for}
-use Rattle.book_shim.specs.Arriving.{Opened, as_taken, judged_arrival, is_awaited, known_for, row_asked, asked_id, handed_on, take_in, take_read}
+use Rattle.book_shim.specs.Keeping.{Setting, demand}
+use Rattle.book_shim.specs.Relaying.{spelled, going, coming, written_by, in_words, rewritten, fitted, relaid, with_area, length_in_header, coming_area, most_mss}
+use Rattle.book_shim.specs.declared.trim.Trim.{Trim}
+use Rattle.book_shim.specs.Leaving.{Sealed, entered, signs, send_sealed, with_ao, ao_bytes, ao_last, no_code, input_for, code_for}
+use Rattle.book_shim.specs.Arriving.{Opened, as_taken, judged_arrival, is_awaited, known_for, handed_on, take_in, take_read}
 use Rattle.law_shim.specs.Origins.{AgreesWith, IsMet, ComesOut}
 use Rattle.law_shim.proofs.Areas.{IsOpenPlain, IsNot, written_listed, plains_placed, written_append, unsigned, ao_plain, front, front_written, whole_written, whole_open, front_open, front_not, listed_plain, ao_found}
 use Rattle.law_shim.proofs.Sealing.{fitted_words, sends, IsFitted, is_fitted, Keeps, relaid_keeps, no_code_long}
 use Rattle.law_shim.proofs.Opening.{relaid_good, covered_same, same_input, remainder_of, meant_near, passes_through}
 
-rewritten_is : (k : ℕ) (area : List ℕ)
+rewritten_is : (k : Trim) (area : List ℕ)
     → rewritten (going k) area ≡ written_by (going k) (plains (listed (options_of area))) ++ replicate ((4 - length (written_by (going k) (plains (listed (options_of area)))) % 4) % 4) 1
 unfolding rewritten
 rewritten_is k area = refl
@@ -44,10 +45,10 @@ pub fitted_found : (d : Segment) (area : List ℕ) (s : Sending) (code : List �
     → IsFitted (40 - ao_length s) d.area area → find_ao (area ++ ao_bytes s code) ≡ One (ao_last area s code)
 fitted_found d area s code f none fit =
     let os = plains (listed (options_of d.area)) in
-    let w = written_by (going fit.blocks) os in
+    let w = written_by (going fit.trim) os in
     let n = (4 - length w % 4) % 4 in
-    let is : area ≡ w ++ replicate n 1 = fit.is ∙ rewritten_is fit.blocks d.area in
-    subst (λ (a : List ℕ). find_ao (a ++ ao_bytes s code) ≡ One (ao_last a s code)) (sym is) (ao_found fit.blocks n os s code (listed_plain d.area f.listed) none)
+    let is : area ≡ w ++ replicate n 1 = fit.is ∙ rewritten_is fit.trim d.area in
+    subst (λ (a : List ℕ). find_ao (a ++ ao_bytes s code) ≡ One (ao_last a s code)) (sym is) (ao_found fit.trim n os s code (listed_plain d.area f.listed) none)
 
 told_same : (i : IpHeader) (d e : Segment) → tcp_length d ≡ tcp_length e → length_in_header i d ≡ length_in_header i e
 told_same (Ipv4 a b c f g o) d e h = ap (λ (n : ℕ). 20 + length o + n) h
@@ -83,18 +84,18 @@ judged_so : (b : Bool) (j : Judgement) (p : Finding) → b ≡ false → j ≡ O
 judged_so true j p e h = absurd (cc)
 judged_so false j p e h = h
 
-is_judged : (rows : List Row) (pair : Pair) (now : ℕ) (g : Kept) (d : Segment) (p : Finding) → (has SYN d && has ACK d && not (is_awaited g d)) ≡ false
-    → judge rows pair (known_for g d) now d ≡ Ok p → judged_arrival rows pair now g d ≡ Ok p
+is_judged : (here : Setting) (pair : Pair) (g : Kept) (d : Segment) (p : Finding) → (has SYN d && has ACK d && not (is_awaited g d)) ≡ false
+    → judge here.rows pair (known_for g d) here.now d ≡ Ok p → judged_arrival here pair g d ≡ Ok p
 unfolding judged_arrival
-is_judged rows pair now g d p e h = judged_so (has SYN d && has ACK d && not (is_awaited g d)) (judge rows pair (known_for g d) now d) p e h
+is_judged here pair g d p e h = judged_so (has SYN d && has ACK d && not (is_awaited g d)) (judge here.rows pair (known_for g d) here.now d) p e h
 
 taken_so : (b : Bool) (j : Judgement) (p : Finding) (f : Finding → Opened) → b ≡ true → j ≡ Ok p
     → (demand b Checksum >>= λ right. as_taken j >>= λ q. Ok (f q)) ≡ Ok (f p)
 taken_so b j p f e h = rw (e, h) refl
 
-is_taken : (rows : List Row) (pair : Pair) (now : ℕ) (g : Kept) (d : Segment) (p : Finding) → good d ≡ true → judged_arrival rows pair now g d ≡ Ok p → take_in rows pair now g d ≡ Ok (handed_on g d p (row_asked rows pair now g.current (asked_id d p)))
+is_taken : (here : Setting) (pair : Pair) (g : Kept) (d : Segment) (p : Finding) → good d ≡ true → judged_arrival here pair g d ≡ Ok p → take_in here pair g d ≡ Ok (handed_on here pair g d p)
 unfolding take_in
-is_taken rows pair now g d p e h = taken_so (good d) (judged_arrival rows pair now g d) p (λ q. handed_on g d q (row_asked rows pair now g.current (asked_id d q))) e h
+is_taken here pair g d p e h = taken_so (good d) (judged_arrival here pair g d) p (λ q. handed_on here pair g d q) e h
 
 -- the MAC is right
 code_right : (r : Row) (s : Sending) (context : List ℕ) (one two : List ℕ) → r.algorithm ≡ s.row.algorithm → r.master ≡ s.row.master → one ≡ two
@@ -104,9 +105,9 @@ code_right r s context one two a m e =
     ∙ ap (λ (x : Algorithm). mac x (traffic_key x s.row.master context) two) (sym a)
     ∙ ap (λ (x : List ℕ). mac r.algorithm (traffic_key r.algorithm x context) two) (sym m)
 
-is_inbound : (rows : List Row) (pair : Pair) (now : ℕ) (g : Kept) (d : Segment) (t : Opened) (b : Bool) (r : Reading) → from_peer pair d ≡ b → b ≡ true → r ≡ Read d → take_in rows pair now g d ≡ Ok t
-    → take_read rows pair now g r ≡ Ok t
-is_inbound rows pair now g d t b r p q e h = ap (take_read rows pair now g) e ∙ (rw (p ∙ q) h)
+is_inbound : (here : Setting) (pair : Pair) (g : Kept) (d : Segment) (t : Opened) (b : Bool) (r : Reading) → from_peer pair d ≡ b → b ≡ true → r ≡ Read d → take_in here pair g d ≡ Ok t
+    → take_read here pair g r ≡ Ok t
+is_inbound here pair g d t b r p q e h = ap (take_read here pair g) e ∙ (rw (p ∙ q) h)
 
 -- ---- the options
 
@@ -122,16 +123,20 @@ rewritten_by w area ps e = ap (λ (l : List Plain). in_words (written_by w l)) e
 written_plains : (qs : List Plain) → AllByRecursion IsOpenPlain qs → plains (listed (options_of (written_by spelled qs))) ≡ qs
 written_plains qs h = ap (λ (o : Options). plains (listed o)) (written_listed qs h) ∙ plains_placed 0 qs
 
-ao_comes : (syn : Bool) (s : Sending) (code : List ℕ) → written_by (coming syn) (ao_plain s code ∷ []) ≡ []
-ao_comes syn s code = refl
+ao_comes : (most : Option ℕ) (s : Sending) (code : List ℕ) → written_by (coming most) (ao_plain s code ∷ []) ≡ []
+ao_comes most s code = refl
 
 -- without TCP-AO the options come in as those in front of it would
-front_comes : (syn : Bool) (qs : List Plain) (s : Sending) (code : List ℕ) → AllByRecursion IsOpenPlain (qs ++ ao_plain s code ∷ []) → AllByRecursion IsOpenPlain qs
-    → rewritten (coming syn) (written_by spelled (qs ++ ao_plain s code ∷ [])) ≡ rewritten (coming syn) (written_by spelled qs)
-front_comes syn qs s code h k =
-    rewritten_by (coming syn) (written_by spelled (qs ++ ao_plain s code ∷ [])) (qs ++ ao_plain s code ∷ []) (written_plains (qs ++ ao_plain s code ∷ []) h)
-    ∙ ap in_words (written_append (coming syn) qs (ao_plain s code ∷ []) ∙ ap (λ (l : List ℕ). written_by (coming syn) qs ++ l) (ao_comes syn s code) ∙ append-nil (written_by (coming syn) qs))
-    ∙ sym (rewritten_by (coming syn) (written_by spelled qs) qs (written_plains qs k))
+front_comes : (most : Option ℕ) (qs : List Plain) (s : Sending) (code : List ℕ) → AllByRecursion IsOpenPlain (qs ++ ao_plain s code ∷ []) → AllByRecursion IsOpenPlain qs
+    → rewritten (coming most) (written_by spelled (qs ++ ao_plain s code ∷ [])) ≡ rewritten (coming most) (written_by spelled qs)
+front_comes most qs s code h k =
+    rewritten_by (coming most) (written_by spelled (qs ++ ao_plain s code ∷ [])) (qs ++ ao_plain s code ∷ []) (written_plains (qs ++ ao_plain s code ∷ []) h)
+    ∙ ap in_words (written_append (coming most) qs (ao_plain s code ∷ []) ∙ ap (λ (l : List ℕ). written_by (coming most) qs ++ l) (ao_comes most s code) ∙ append-nil (written_by (coming most) qs))
+    ∙ sym (rewritten_by (coming most) (written_by spelled qs) qs (written_plains qs k))
+
+-- a segment without SYN has no maximum segment size to lower
+no_most : (mtu : ℕ) (d : Segment) → has SYN d ≡ false → most_mss mtu d ≡ None
+no_most mtu d e = rw e refl
 
 comes_by : (a b : Bool) (o : Plain) → a ≡ false → b ≡ false → (if a || b then [] else spelled o) ≡ spelled o
 comes_by true b o e f = absurd (cc)
@@ -142,26 +147,26 @@ above_zero : (n : ℕ) → 0 < n → (n == 0) ≡ false
 above_zero n h = grind (arith, nat_tests)
 
 -- without SYN each stays
-stays : (qs : List Plain) → AllByRecursion IsOpenPlain qs → AllByRecursion (IsNot 29) qs → written_by (coming false) qs ≡ written_by spelled qs
+stays : (qs : List Plain) → AllByRecursion IsOpenPlain qs → AllByRecursion (IsNot 29) qs → written_by (coming None) qs ≡ written_by spelled qs
 stays [] h k = refl
 stays (o ∷ os) h k =
-    ap (λ (l : List ℕ). l ++ written_by (coming false) os) (comes_by (o.kind == 0) (o.kind == 29) o (above_zero o.kind h.0.kind) k.0)
+    ap (λ (l : List ℕ). l ++ written_by (coming None) os) (comes_by (o.kind == 0) (o.kind == 29) o (above_zero o.kind h.0.kind) k.0)
     ∙ ap (λ (l : List ℕ). spelled o ++ l) (stays os h.1 k.1)
 
 front_stays : (qs : List Plain) → AllByRecursion IsOpenPlain qs → AllByRecursion (IsNot 29) qs → length (written_by spelled qs) % 4 ≡ 0
-    → rewritten (coming false) (written_by spelled qs) ≡ written_by spelled qs
+    → rewritten (coming None) (written_by spelled qs) ≡ written_by spelled qs
 front_stays qs h k w =
-    rewritten_by (coming false) (written_by spelled qs) qs (written_plains qs h) ∙ ap in_words (stays qs h k) ∙ whole_words (written_by spelled qs) w
+    rewritten_by (coming None) (written_by spelled qs) qs (written_plains qs h) ∙ ap in_words (stays qs h k) ∙ whole_words (written_by spelled qs) w
 
 pub record Options_ (d : Segment) (area : List ℕ) (s : Sending) (code : List ℕ) : Type 0 where
-  pub come : (syn : Bool) → coming_area syn (area ++ ao_bytes s code) ≡ coming_area syn area
-  pub stay : coming_area false area ≡ area
+  pub come : (most : Option ℕ) → coming_area most (area ++ ao_bytes s code) ≡ coming_area most area
+  pub stay : coming_area None area ≡ area
 
 pub fitted_options : (d : Segment) (area : List ℕ) (s : Sending) (code : List ℕ) → Fits d → list_any signs (plains (listed (options_of d.area))) ≡ false
     → IsFitted (40 - ao_length s) d.area area → length area % 4 ≡ 0 → Options_ d area s code
 fitted_options d area s code f none fit w =
     let os = plains (listed (options_of d.area)) in
-    let k = fit.blocks in
+    let k = fit.trim in
     let n = (4 - length (written_by (going k) os) % 4) % 4 in
     let qs = front k n os in
     let is : area ≡ written_by spelled qs = fit.is ∙ rewritten_is k d.area ∙ sym (front_written k n os) in
@@ -173,8 +178,8 @@ fitted_options d area s code f none fit w =
     let all_is : area ++ ao_bytes s code ≡ written_by spelled (qs ++ ao_plain s code ∷ []) =
     ap (λ (l : List ℕ). l ++ ao_bytes s code) (is ∙ front_written k n os) ∙ sym (whole_written k n os s code) in
     record {
-      come = λ syn. ap (λ (l : List ℕ). coming_area syn l) all_is ∙ front_comes syn qs s code open_all open_front ∙ ap (λ (l : List ℕ). coming_area syn l) (sym is);
-      stay = ap (λ (l : List ℕ). coming_area false l) is ∙ front_stays qs open_front not_ao (subst (λ (l : List ℕ). length l % 4 ≡ 0) is w) ∙ sym is;
+      come = λ most. ap (λ (l : List ℕ). coming_area most l) all_is ∙ front_comes most qs s code open_all open_front ∙ ap (λ (l : List ℕ). coming_area most l) (sym is);
+      stay = ap (λ (l : List ℕ). coming_area None l) is ∙ front_stays qs open_front not_ao (subst (λ (l : List ℕ). length l % 4 ≡ 0) is w) ∙ sym is;
     }
 
 -- the options with TCP-AO after them are listed
@@ -182,17 +187,17 @@ pub front_listed : (d : Segment) (area : List ℕ) (s : Sending) (code : List �
     → IsFitted (40 - ao_length s) d.area area → AreListed (options_of (area ++ ao_bytes s code))
 front_listed d area s code f none fit =
     let os = plains (listed (options_of d.area)) in
-    let k = fit.blocks in
+    let k = fit.trim in
     let n = (4 - length (written_by (going k) os) % 4) % 4 in
     let is : area ≡ written_by (going k) os ++ replicate n 1 = fit.is ∙ rewritten_is k d.area in
     let qs = front k n os ++ ao_plain s code ∷ [] in
     let all_is : area ++ ao_bytes s code ≡ written_by spelled qs = ap (λ (l : List ℕ). l ++ ao_bytes s code) is ∙ sym (whole_written k n os s code) in
     subst (λ (o : Options). AreListed o) (sym (ap options_of all_is ∙ written_listed qs (whole_open k n os s code (listed_plain d.area f.listed)))) tt
 
-pub comes_out : (rows_there rows : List Row) (pair_there pair : Pair) (before now : ℕ) (there g : Kept) (d : Segment) (m : Sealed) → Fits d
-    → send_sealed rows_there pair_there before there d ≡ Ok m → IsMet rows pair now g m → ComesOut rows pair now g m
-comes_out rows_there rows pair_there pair before now there g d m f h met =
-    let z = sends rows_there pair_there before there d m h in
+pub comes_out : (sending here : Setting) (pair_there pair : Pair) (there g : Kept) (d : Segment) (m : Sealed) → Fits d
+    → send_sealed sending pair_there there d ≡ Ok m → IsMet here pair g m → ComesOut here pair g m
+comes_out sending here pair_there pair there g d m f h met =
+    let z = sends sending pair_there there d m h in
     let s = m.sending in
     let area = z.area in
     let input = input_for d area s m.number in
@@ -203,7 +208,7 @@ comes_out rows_there rows pair_there pair before now there g d m f h met =
     let is : e ≡ relaid d a = ap (λ (x : Sealed). x.segment) z.sent_is in
     let given : m.given ≡ d = ap (λ (x : Sealed). x.given) z.sent_is in
     let k : Keeps d e a = subst (λ (x : Segment). Keeps d x a) (sym is) (relaid_keeps d a) in
-    let fit = is_fitted (40 - ao_length s) 4 d.area area z.fits in
+    let fit = is_fitted (40 - ao_length s) d.area area z.fits in
     let code_long : length code ≡ mac_length_of s.row.algorithm =
     length-mac s.row.algorithm (traffic_key s.row.algorithm s.row.master m.context) input (length-traffic_key s.row.algorithm s.row.master m.context) in
     let same_long : length (no_code s) ≡ length code = no_code_long s ∙ sym code_long in
@@ -217,22 +222,22 @@ comes_out rows_there rows pair_there pair before now there g d m f h met =
     let inputs : input ≡ mac_input m.number e ao met.row.row.with_options =
     same_input m.number d blank a (ao_last area s (no_code s)) ao s.row.with_options areas (covered_same s.row.with_options area s (no_code s) code same_long)
     ∙ ap (λ (x : Segment). mac_input m.number x ao s.row.with_options) (sym is) ∙ ap (λ (b : Bool). mac_input m.number e ao b) (sym met.with_options) in
-    let verdict : judge rows pair (known_for g e) now e ≡ Ok p =
-    passes_through rows pair (known_for g e) now e ao met.row m.context m.number (ap find_ao k.area_is ∙ fitted_found d area s code f z.plain fit) met.accepted
+    let verdict : judge here.rows pair (known_for g e) here.now e ≡ Ok p =
+    passes_through here.rows pair (known_for g e) here.now e ao met.row m.context m.number (ap find_ao k.area_is ∙ fitted_found d area s code f z.plain fit) met.accepted
     (code_long ∙ ap mac_length_of (sym met.algorithm)) met.context (heard_by (has SYN e) (known_for g e).expected (λ no_syn. let r = met.near no_syn in (r.0, r.1)))
-    (number_by (has SYN e) d e z.entering.sent m.number (known_for g e).expected syn refl k.sequence f.sequence z.number_is met.near)
+    (number_by (has SYN e) d e (entered there d).sent m.number (known_for g e).expected syn refl k.sequence f.sequence z.number_is met.near)
     (subst (λ (n : ℕ). m.number + n ≤ number_limit) (sym sizes) z.ends)
     (code_right met.row.row s m.context input (mac_input m.number e ao met.row.row.with_options) met.algorithm met.master inputs) in
     let whole : length_in_header d.ip (with_area d a) ≤ 65535 =
     subst (λ (n : ℕ). n ≤ 65535) (told_same d.ip (with_ao d area s (no_code s)) (with_area d a) (total_same d blank a (relaid_keeps d blank) areas)) z.whole in
     let right : good e ≡ true = ap good is ∙ relaid_good d a f.ip whole in
-    let l = relaid_keeps e (coming_area (has SYN e) e.area) in
-    let os = fitted_options d area s code f z.plain fit (fitted_words _ 4 d.area area z.fits) in
-    let G : Segment → Type 0 = λ x. AgreesWith x (relaid e (coming_area (has SYN e) e.area)) in
+    let l = relaid_keeps e (coming_area (most_mss here.mtu e) e.area) in
+    let os = fitted_options d area s code f z.plain fit (fitted_words _ d.area area z.fits) in
+    let G : Segment → Type 0 = λ x. AgreesWith x (relaid e (coming_area (most_mss here.mtu e) e.area)) in
     record {
-      taken = handed_on g e p (row_asked rows pair now g.current (asked_id e p));
-      takes = λ bytes read from. is_inbound rows pair now g e (handed_on g e p (row_asked rows pair now g.current (asked_id e p))) (from_peer pair e) (reading bytes) refl from read
-          (is_taken rows pair now g e p right (is_judged rows pair now g e p met.awaited verdict));
+      taken = handed_on here pair g e p;
+      takes = λ bytes read from. is_inbound here pair g e (handed_on here pair g e p) (from_peer pair e) (reading bytes) refl from read
+          (is_taken here pair g e p right (is_judged here pair g e p met.awaited verdict));
       agrees = subst G (sym given) (record {
         source = sym k.source ∙ sym l.source;
         destination = sym k.destination ∙ sym l.destination;
@@ -246,9 +251,9 @@ comes_out rows_there rows pair_there pair before now there g d m f h met =
       });
       number = refl;
       options = area;
-      fit = ap (λ (x : Segment). fitted (40 - ao_length s) 4 x.area) given ∙ z.fits;
-      come = l.area_is ∙ ap (λ (x : List ℕ). coming_area (has SYN e) x) k.area_is ∙ os.come (has SYN e);
-      stay = λ none. l.area_is ∙ ap (λ (x : List ℕ). coming_area (has SYN e) x) k.area_is ∙ os.come (has SYN e) ∙ ap (λ (b : Bool). coming_area b area) none ∙ os.stay;
+      fit = ap (λ (x : Segment). fitted (40 - ao_length s) x.area) given ∙ z.fits;
+      come = l.area_is ∙ ap (λ (x : List ℕ). coming_area (most_mss here.mtu e) x) k.area_is ∙ os.come (most_mss here.mtu e);
+      stay = λ none. l.area_is ∙ ap (λ (x : List ℕ). coming_area (most_mss here.mtu e) x) k.area_is ∙ os.come (most_mss here.mtu e) ∙ ap (λ (o : Option ℕ). coming_area o area) (no_most here.mtu e none) ∙ os.stay;
     }
   where
     length_same : (e d : Segment) → e.payload ≡ d.payload → e.flags ≡ d.flags → segment_length e ≡ segment_length d

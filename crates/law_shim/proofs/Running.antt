@@ -1,6 +1,6 @@
 -- What is handed to a kernel was given by the other one.
 use Rattle.std.specs.Prelude.{slice_index_or, ◌-◌, ◌/◌, ◌%◌, ◌==◌}
-use Rattle.std.proofs.Common.{◌≡◌, ℕ, ◌&&◌, ◌||◌, Bool, true, false, List, [], ◌∷◌, ◌++◌, Result, Ok, Err, refl, sym, ap, subst, ◌∙◌, inl, inr, ◌⊎◌, if◌then◌else◌}
+use Rattle.std.proofs.Common.{◌≡◌, ℕ, ◌&&◌, ◌||◌, Bool, true, false, List, [], ◌∷◌, ◌++◌, Option, Result, Ok, Err, refl, sym, ap, subst, ◌∙◌, inl, inr, ◌⊎◌, if◌then◌else◌}
 use Rattle.book_base.specs.declared.address.Pair.{Pair}
 use Rattle.book_segments.specs.Bytes.{same_bytes}
 use Rattle.book_segments.specs.Options.{Ao, One, Opt, find_ao, found, of_kind, listed, options_of}
@@ -12,6 +12,7 @@ use Rattle.book_segments.proofs.SocketLaws.{same_socket_is}
 use Rattle.book_segments.proofs.SpellLaws.{read_stands}
 use Rattle.book_macs.specs.MacInput.{mac_input, covered}
 use Rattle.book_keys.specs.Rows.{Row}
+use Rattle.book_shim.specs.Keeping.{Setting}
 use Rattle.book_endpoint.specs.Verdicts.{Finding, Known, key_of, same_master_key}
 use Rattle.book_endpoint.specs.Passing.{Passes}
 use Rattle.book_endpoint.proofs.Passing.{meets}
@@ -23,53 +24,53 @@ use Rattle.book_shim.specs.declared.refusal.Untaken.TheVariants.{Foreign as Stra
 use Rattle.book_shim.specs.declared.refusal.Untaken.{Untaken}
 use Rattle.book_shim.specs.Leaving.{Sealed, send_sealed, send_read, outbound, with_ao, ao_bytes, no_code, ao_last}
 use Rattle.book_shim.specs.Arriving.{Opened, take_in, take_read, inbound, known_for}
-use Rattle.book_shim.specs.Relaying.{relaid, coming_area}
+use Rattle.book_shim.specs.Relaying.{relaid, coming_area, most_mss}
 use Rattle.law_shim.specs.Worlds.{Side, Left, Right, other, same_side, pair_at, Event, Leaves, Arrives, Made, World, kept_at, keeping, after_leaving, after_arriving, run, accounts_for, was_made, Gave, WasSealed, IsBytewise}
 use Rattle.law_shim.specs.Origins.{AgreesWith, IsOriginal}
 use Rattle.law_shim.proofs.Meanings.{same_inputs, same_family, fits_sized}
 use Rattle.law_shim.proofs.Blanks.{comes_blank}
 use Rattle.law_shim.proofs.Returning.{fitted_found, fitted_options, front_listed}
-use Rattle.law_shim.proofs.Sealing.{is_fitted, IsSealed, sends, Keeps, relaid_keeps, relaid_family, blank_sized, fitted_words, IsOpened, takes}
+use Rattle.law_shim.proofs.Sealing.{same_most, is_fitted, IsSealed, sends, Keeps, relaid_keeps, relaid_family, blank_sized, fitted_words, IsOpened, takes}
 
 -- ---- one step
 
 -- what was sent in place of what was read
-record WasSent (rows : List Row) (pair : Pair) (now : ℕ) (g : Kept) (r : Reading) (m : Sealed) : Type 0 where
+record WasSent (here : Setting) (pair : Pair) (g : Kept) (r : Reading) (m : Sealed) : Type 0 where
   given : Segment
   read : r ≡ Read given
   source : given.source ≡ pair.local
   destination : given.destination ≡ pair.remote
-  sealed_so : IsSealed rows pair now g given m
+  sealed_so : IsSealed here pair g given m
 
-sockets : (b : Bool) (rows : List Row) (pair : Pair) (now : ℕ) (g : Kept) (d : Segment) (m : Sealed) → b ≡ (same_socket d.source pair.local && same_socket d.destination pair.remote)
-    → (if b then send_sealed rows pair now g d else Err Foreign) ≡ Ok m → WasSent rows pair now g (Read d) m
-sockets true rows pair now g d m is e =
+sockets : (b : Bool) (here : Setting) (pair : Pair) (g : Kept) (d : Segment) (m : Sealed) → b ≡ (same_socket d.source pair.local && same_socket d.destination pair.remote)
+    → (if b then send_sealed here pair g d else Err Foreign) ≡ Ok m → WasSent here pair g (Read d) m
+sockets true here pair g d m is e =
     let two = and_tells (same_socket d.source pair.local) (same_socket d.destination pair.remote) (sym is) in
-    record { given = d; read = refl; source = same_socket_is d.source pair.local two.0; destination = same_socket_is d.destination pair.remote two.1; sealed_so = sends rows pair now g d m e }
-sockets false rows pair now g d m is e = absurd (cc)
+    record { given = d; read = refl; source = same_socket_is d.source pair.local two.0; destination = same_socket_is d.destination pair.remote two.1; sealed_so = sends here pair g d m e }
+sockets false here pair g d m is e = absurd (cc)
 
-was_sent : (rows : List Row) (pair : Pair) (now : ℕ) (g : Kept) (r : Reading) (m : Sealed) → send_read rows pair now g r ≡ Ok m → WasSent rows pair now g r m
-was_sent rows pair now g (Unread fault) m e = absurd (cc)
-was_sent rows pair now g (Read d) m e = sockets (same_socket d.source pair.local && same_socket d.destination pair.remote) rows pair now g d m refl e
+was_sent : (here : Setting) (pair : Pair) (g : Kept) (r : Reading) (m : Sealed) → send_read here pair g r ≡ Ok m → WasSent here pair g r m
+was_sent here pair g (Unread fault) m e = absurd (cc)
+was_sent here pair g (Read d) m e = sockets (same_socket d.source pair.local && same_socket d.destination pair.remote) here pair g d m refl e
 
 -- what was taken in place of what was read
-record WasTaken (rows : List Row) (pair : Pair) (now : ℕ) (g : Kept) (r : Reading) (t : Opened) : Type 0 where
+record WasTaken (here : Setting) (pair : Pair) (g : Kept) (r : Reading) (t : Opened) : Type 0 where
   segment : Segment
   read : r ≡ Read segment
   source : segment.source ≡ pair.remote
   destination : segment.destination ≡ pair.local
-  opened_so : IsOpened rows pair now g segment t
+  opened_so : IsOpened here pair g segment t
 
-peers : (b : Bool) (rows : List Row) (pair : Pair) (now : ℕ) (g : Kept) (d : Segment) (t : Opened) → b ≡ from_peer pair d
-    → (if b then take_in rows pair now g d else Err Strange) ≡ Ok t → WasTaken rows pair now g (Read d) t
-peers true rows pair now g d t is e =
+peers : (b : Bool) (here : Setting) (pair : Pair) (g : Kept) (d : Segment) (t : Opened) → b ≡ from_peer pair d
+    → (if b then take_in here pair g d else Err Strange) ≡ Ok t → WasTaken here pair g (Read d) t
+peers true here pair g d t is e =
     let two = and_tells (same_socket d.source pair.remote) (same_socket d.destination pair.local) (sym is) in
-    record { segment = d; read = refl; source = same_socket_is d.source pair.remote two.0; destination = same_socket_is d.destination pair.local two.1; opened_so = takes rows pair now g d t e }
-peers false rows pair now g d t is e = absurd (cc)
+    record { segment = d; read = refl; source = same_socket_is d.source pair.remote two.0; destination = same_socket_is d.destination pair.local two.1; opened_so = takes here pair g d t e }
+peers false here pair g d t is e = absurd (cc)
 
-was_taken : (rows : List Row) (pair : Pair) (now : ℕ) (g : Kept) (r : Reading) (t : Opened) → take_read rows pair now g r ≡ Ok t → WasTaken rows pair now g r t
-was_taken rows pair now g (Unread fault) t e = absurd (cc)
-was_taken rows pair now g (Read d) t e = peers (from_peer pair d) rows pair now g d t refl e
+was_taken : (here : Setting) (pair : Pair) (g : Kept) (r : Reading) (t : Opened) → take_read here pair g r ≡ Ok t → WasTaken here pair g r t
+was_taken here pair g (Unread fault) t e = absurd (cc)
+was_taken here pair g (Read d) t e = peers (from_peer pair d) here pair g d t refl e
 
 read_fits : (bytes : List ℕ) (d : Segment) → AreBytes bytes → reading bytes ≡ Read d → Fits d
 read_fits bytes d b e = (read_stands bytes d b e).1
@@ -78,29 +79,27 @@ read_fits bytes d b e = (read_stands bytes d b e).1
 
 pub record IsMade (pair : Pair) (events : List Event) (m : Made) : Type 0 where
   pub bytes : List ℕ
-  pub rows : List Row
-  pub now : ℕ
+  pub here : Setting
   pub kept : Kept
   pub gave : Gave m.maker bytes events
   pub read : reading bytes ≡ Read m.sent.given
   pub fits : Fits m.sent.given
   pub source : m.sent.given.source ≡ (pair_at pair m.maker).local
   pub destination : m.sent.given.destination ≡ (pair_at pair m.maker).remote
-  pub sealed_so : IsSealed rows (pair_at pair m.maker) now kept m.sent.given m.sent
+  pub sealed_so : IsSealed here (pair_at pair m.maker) kept m.sent.given m.sent
 
 abbrev pub AllMade : Pair → List Event → List Made → Type 0
 AllMade pair events [] = Unit {0}
 AllMade pair events (m ∷ ms) = IsMade pair events m × AllMade pair events ms
 
 gave_later : (at : Side) (bytes : List ℕ) (e : Event) (past : List Event) → Gave at bytes past → Gave at bytes (e ∷ past)
-gave_later at bytes (Leaves side rows now given) past h = inr h
-gave_later at bytes (Arrives side rows now given) past h = h
+gave_later at bytes (Leaves side here given) past h = inr h
+gave_later at bytes (Arrives side here given) past h = h
 
 made_later : (pair : Pair) (e : Event) (past : List Event) (m : Made) → IsMade pair past m → IsMade pair (e ∷ past) m
 made_later pair e past m h = record {
   bytes = h.bytes;
-  rows = h.rows;
-  now = h.now;
+  here = h.here;
   kept = h.kept;
   gave = gave_later m.maker h.bytes e past h.gave;
   read = h.read;
@@ -115,48 +114,47 @@ all_later pair e past [] h = tt
 all_later pair e past (m ∷ ms) h = (made_later pair e past m h.0, all_later pair e past ms h.1)
 
 -- a segment that is sealed is that of a datagram
-is_made : (pair : Pair) (at : Side) (rows : List Row) (now : ℕ) (g : Kept) (bytes : List ℕ) (past : List Event) (m : Sealed) → AreBytes bytes
-    → outbound rows (pair_at pair at) now g bytes ≡ Ok m → IsMade pair (Leaves at rows now bytes ∷ past) (record { maker = at; sent = m })
-is_made pair at rows now g bytes past m b e =
-    let w = was_sent rows (pair_at pair at) now g (reading bytes) m e in
+is_made : (pair : Pair) (at : Side) (here : Setting) (g : Kept) (bytes : List ℕ) (past : List Event) (m : Sealed) → AreBytes bytes
+    → outbound here (pair_at pair at) g bytes ≡ Ok m → IsMade pair (Leaves at here bytes ∷ past) (record { maker = at; sent = m })
+is_made pair at here g bytes past m b e =
+    let w = was_sent here (pair_at pair at) g (reading bytes) m e in
     let d = w.given in
     let is : d ≡ m.given = ap (λ (x : Sealed). x.given) (sym w.sealed_so.sent_is) in
     let f = read_fits bytes d b w.read in
     record {
       bytes = bytes;
-      rows = rows;
-      now = now;
+      here = here;
       kept = g;
       gave = inl ((refl, refl));
       read = subst (λ (x : Segment). reading bytes ≡ Read x) is w.read;
       fits = subst Fits is f;
       source = subst (λ (x : Segment). x.source ≡ (pair_at pair at).local) is w.source;
       destination = subst (λ (x : Segment). x.destination ≡ (pair_at pair at).remote) is w.destination;
-      sealed_so = subst (λ (x : Segment). IsSealed rows (pair_at pair at) now g x m) is w.sealed_so;
+      sealed_so = subst (λ (x : Segment). IsSealed here (pair_at pair at) g x m) is w.sealed_so;
     }
 
 made_keeping : (w : World) (at : Side) (g : Kept) → (keeping w at g).made ≡ w.made
 made_keeping w Left g = refl
 made_keeping w Right g = refl
 
-leaving : (pair : Pair) (at : Side) (rows : List Row) (now : ℕ) (bytes : List ℕ) (past : List Event) (w : World) (r : Result Sealed Unsent) → AreBytes bytes
-    → outbound rows (pair_at pair at) now (kept_at w at) bytes ≡ r → AllMade pair past w.made → AllMade pair (Leaves at rows now bytes ∷ past) (after_leaving w at r).made
-leaving pair at rows now bytes past w (Ok m) b is h =
-    (is_made pair at rows now (kept_at w at) bytes past m b is, all_later pair (Leaves at rows now bytes) past w.made h)
-leaving pair at rows now bytes past w (Err why) b is h = all_later pair (Leaves at rows now bytes) past w.made h
+leaving : (pair : Pair) (at : Side) (here : Setting) (bytes : List ℕ) (past : List Event) (w : World) (r : Result Sealed Unsent) → AreBytes bytes
+    → outbound here (pair_at pair at) (kept_at w at) bytes ≡ r → AllMade pair past w.made → AllMade pair (Leaves at here bytes ∷ past) (after_leaving w at r).made
+leaving pair at here bytes past w (Ok m) b is h =
+    (is_made pair at here (kept_at w at) bytes past m b is, all_later pair (Leaves at here bytes) past w.made h)
+leaving pair at here bytes past w (Err why) b is h = all_later pair (Leaves at here bytes) past w.made h
 
-arriving : (pair : Pair) (at : Side) (rows : List Row) (now : ℕ) (bytes : List ℕ) (past : List Event) (w : World) (r : Result Opened Untaken)
-    → AllMade pair past w.made → AllMade pair (Arrives at rows now bytes ∷ past) (after_arriving w at r).made
-arriving pair at rows now bytes past w (Ok t) h =
-    subst (λ (ms : List Made). AllMade pair (Arrives at rows now bytes ∷ past) ms) (sym (made_keeping w at t.kept)) (all_later pair (Arrives at rows now bytes) past w.made h)
-arriving pair at rows now bytes past w (Err why) h = all_later pair (Arrives at rows now bytes) past w.made h
+arriving : (pair : Pair) (at : Side) (here : Setting) (bytes : List ℕ) (past : List Event) (w : World) (r : Result Opened Untaken)
+    → AllMade pair past w.made → AllMade pair (Arrives at here bytes ∷ past) (after_arriving w at r).made
+arriving pair at here bytes past w (Ok t) h =
+    subst (λ (ms : List Made). AllMade pair (Arrives at here bytes ∷ past) ms) (sym (made_keeping w at t.kept)) (all_later pair (Arrives at here bytes) past w.made h)
+arriving pair at here bytes past w (Err why) h = all_later pair (Arrives at here bytes) past w.made h
 
 pub all_made : (pair : Pair) (events : List Event) → IsBytewise events → AllMade pair events (run pair events).made
 all_made pair [] b = tt
-all_made pair (Leaves at rows now bytes ∷ past) b =
-    leaving pair at rows now bytes past (run pair past) (outbound rows (pair_at pair at) now (kept_at (run pair past) at) bytes) b.0 refl (all_made pair past b.1)
-all_made pair (Arrives at rows now bytes ∷ past) b =
-    arriving pair at rows now bytes past (run pair past) (inbound rows (pair_at pair at) now (kept_at (run pair past) at) bytes) (all_made pair past b.1)
+all_made pair (Leaves at here bytes ∷ past) b =
+    leaving pair at here bytes past (run pair past) (outbound here (pair_at pair at) (kept_at (run pair past) at) bytes) b.0 refl (all_made pair past b.1)
+all_made pair (Arrives at here bytes ∷ past) b =
+    arriving pair at here bytes past (run pair past) (inbound here (pair_at pair at) (kept_at (run pair past) at) bytes) (all_made pair past b.1)
 
 -- ---- what passed and is no forgery
 
@@ -238,15 +236,15 @@ one_found : (d : Segment) {rows : List Row} {pair : Pair} {known : Known} {now :
 unfolding find_ao
 one_found d h = ap (λ (l : List Opt). found l (of_kind 19 (listed (options_of d.area)))) h.one_option ∙ ap (λ (l : List Opt). found (h.option ∷ []) l) h.no_md5 ∙ ap (λ (a : Ao). One a) (sym h.its_fields)
 
-pub authentic : (pair : Pair) (events : List Event) (at : Side) (rows : List Row) (now : ℕ) (bytes : List ℕ) (t : Opened) → IsBytewise events → AreBytes bytes
-    → inbound rows (pair_at pair at) now (kept_at (run pair events) at) bytes ≡ Ok t → was_made at t.passed (run pair events).made ≡ true → IsOriginal pair events rows at t
-authentic pair events at rows now bytes t all b e made =
+pub authentic : (pair : Pair) (events : List Event) (at : Side) (here : Setting) (bytes : List ℕ) (t : Opened) → IsBytewise events → AreBytes bytes
+    → inbound here (pair_at pair at) (kept_at (run pair events) at) bytes ≡ Ok t → was_made at t.passed (run pair events).made ≡ true → IsOriginal pair events here at t
+authentic pair events at here bytes t all b e made =
     let P = pair_at pair at in
-    let w = was_taken rows P now (kept_at (run pair events) at) (reading bytes) t e in
+    let w = was_taken here P (kept_at (run pair events) at) (reading bytes) t e in
     let d = w.segment in
     let fd = read_fits bytes d b w.read in
     let p = t.passed in
-    let passes = meets rows P (known_for (kept_at (run pair events) at) d) now d p w.opened_so.judgement in
+    let passes = meets here.rows P (known_for (kept_at (run pair events) at) d) here.now d p w.opened_so.judgement in
     let found = found_made pair events at p (run pair events).made (all_made pair events all) made in
     let m = found.made in
     let s = found.is_so in
@@ -262,9 +260,9 @@ authentic pair events at rows now bytes t all b e made =
     let input : mac_input m.sent.number blank (ao_last area sending (no_code sending)) sending.row.with_options ≡ mac_input p.number d passes.ao passes.row.row.with_options =
     sym (ap (λ (x : Sealed). x.input) z.sent_is) ∙ found.input ∙ ap (λ (x : Finding). x.input) passes.finding in
     let same = same_inputs m.sent.number p.number blank d (ao_last area sending (no_code sending)) passes.ao sending.row.with_options passes.row.row.with_options
-    family (k.source ∙ source) (k.destination ∙ destination) (blank_sized given area sending s.fits (fitted_words _ 4 given.area area z.fits) z.whole) (fits_sized d fd) input in
-    let out_is : t.segment ≡ relaid d (coming_area (has SYN d) d.area) = ap (λ (x : Opened). x.segment) w.opened_so.taken_is in
-    let agrees = carried given blank d (relaid d (coming_area (has SYN d) d.area)) (area ++ ao_bytes sending (no_code sending)) (coming_area (has SYN d) d.area) k same.agrees (relaid_keeps d (coming_area (has SYN d) d.area)) in
+    family (k.source ∙ source) (k.destination ∙ destination) (blank_sized given area sending s.fits (fitted_words _ given.area area z.fits) z.whole) (fits_sized d fd) input in
+    let out_is : t.segment ≡ relaid d (coming_area (most_mss here.mtu d) d.area) = ap (λ (x : Opened). x.segment) w.opened_so.taken_is in
+    let agrees = carried given blank d (relaid d (coming_area (most_mss here.mtu d) d.area)) (area ++ ao_bytes sending (no_code sending)) (coming_area (most_mss here.mtu d) d.area) k same.agrees (relaid_keeps d (coming_area (most_mss here.mtu d) d.area)) in
     record {
       sent = m.sent;
       made = found.sealed_there;
@@ -278,18 +276,18 @@ authentic pair events at rows now bytes t all b e made =
       come = λ flag passing.
           let passed_row : p.row ≡ passes.row.number = ap (λ (x : Finding). x.row) passes.finding in
           let flag_there : passes.row.row.with_options ≡ true =
-          ap (λ (x : Row). x.with_options) (sym (passes.acceptable_row.here passes.row.row) ∙ ap (λ (i : ℕ). slice_index_or rows (i - 1) passes.row.row) (sym passed_row)) ∙ passing passes.row.row in
-          let syn_is : has SYN t.segment ≡ has SYN d = ap (λ (x : Segment). has SYN x) out_is ∙ ap (λ (n : ℕ). ((n / 2) % 2 == 1)) (relaid_keeps d (coming_area (has SYN d) d.area)).flags in
+          ap (λ (x : Row). x.with_options) (sym (passes.acceptable_row.here passes.row.row) ∙ ap (λ (i : ℕ). slice_index_or here.rows (i - 1) passes.row.row) (sym passed_row)) ∙ passing passes.row.row in
+          let most_is : most_mss here.mtu t.segment ≡ most_mss here.mtu d = ap (λ (x : Segment). most_mss here.mtu x) out_is ∙ same_most here.mtu d (coming_area (most_mss here.mtu d) d.area) in
           let blank_code = no_code sending in
           let covers_both : covered true (area ++ ao_bytes sending blank_code) (ao_last area sending blank_code) ≡ covered true d.area passes.ao =
           ap (λ (l : List ℕ). covered true l (ao_last area sending blank_code)) (sym k.area_is)
           ∙ ap (λ (b : Bool). covered b blank.area (ao_last area sending blank_code)) (sym flag) ∙ same.covers ∙ ap (λ (b : Bool). covered b d.area passes.ao) flag_there in
-          let os = fitted_options given area sending blank_code s.fits z.plain (is_fitted _ 4 given.area area z.fits) (fitted_words _ 4 given.area area z.fits) in
-          let found_blank = fitted_found given area sending blank_code s.fits z.plain (is_fitted _ 4 given.area area z.fits) in
-          let listed_blank = front_listed given area sending blank_code s.fits z.plain (is_fitted _ 4 given.area area z.fits) in
-          ap (λ (x : Segment). x.area) out_is ∙ (relaid_keeps d (coming_area (has SYN d) d.area)).area_is
-          ∙ sym (comes_blank (has SYN d) d.area passes.ao fd.listed (one_found d passes))
-          ∙ ap (λ (l : List ℕ). coming_area (has SYN d) l) (sym covers_both)
-          ∙ comes_blank (has SYN d) (area ++ ao_bytes sending blank_code) (ao_last area sending blank_code) listed_blank found_blank
-          ∙ os.come (has SYN d) ∙ ap (λ (b : Bool). coming_area b area) (sym syn_is);
+          let os = fitted_options given area sending blank_code s.fits z.plain (is_fitted _ given.area area z.fits) (fitted_words _ given.area area z.fits) in
+          let found_blank = fitted_found given area sending blank_code s.fits z.plain (is_fitted _ given.area area z.fits) in
+          let listed_blank = front_listed given area sending blank_code s.fits z.plain (is_fitted _ given.area area z.fits) in
+          ap (λ (x : Segment). x.area) out_is ∙ (relaid_keeps d (coming_area (most_mss here.mtu d) d.area)).area_is
+          ∙ sym (comes_blank (most_mss here.mtu d) d.area passes.ao fd.listed (one_found d passes))
+          ∙ ap (λ (l : List ℕ). coming_area (most_mss here.mtu d) l) (sym covers_both)
+          ∙ comes_blank (most_mss here.mtu d) (area ++ ao_bytes sending blank_code) (ao_last area sending blank_code) listed_blank found_blank
+          ∙ os.come (most_mss here.mtu d) ∙ ap (λ (o : Option ℕ). coming_area o area) (sym most_is);
     }

@@ -4,12 +4,11 @@ use Rattle.std.specs.Prelude.{Result, Ok, Err}
 use Rattle.book_base.specs.declared.address.Pair.{Pair}
 use Rattle.book_segments.specs.Bytes.{same_bytes}
 use Rattle.book_segments.specs.Spelling.{AreBytes}
-use Rattle.book_keys.specs.Rows.{Row}
 use Rattle.book_endpoint.specs.Verdicts.{Finding, key_of, same_master_key}
 use Rattle.book_shim.specs.declared.kept.Kept.{Kept}
 use Rattle.book_shim.specs.declared.refusal.Unsent.{Unsent}
 use Rattle.book_shim.specs.declared.refusal.Untaken.{Untaken}
-use Rattle.book_shim.specs.Keeping.{fresh}
+use Rattle.book_shim.specs.Keeping.{Setting, fresh}
 use Rattle.book_shim.specs.Leaving.{Sealed, outbound}
 use Rattle.book_shim.specs.Arriving.{Opened, inbound}
 
@@ -34,10 +33,10 @@ abbrev pub pair_at : Pair → Side → Pair
 pair_at pair Left = pair
 pair_at pair Right = record { local = pair.remote; remote = pair.local }
 
--- what happens at an end, under whatever table and at whatever time (own)
+-- what happens at an end, under whatever table, at whatever time and with whatever MTU (own)
 pub data Event : Type 0 where
-  Leaves : (at : Side) (rows : List Row) (now : ℕ) (bytes : List ℕ) → Event  -- of its kernel
-  Arrives : (at : Side) (rows : List Row) (now : ℕ) (bytes : List ℕ) → Event  -- of the network
+  Leaves : (at : Side) (here : Setting) (bytes : List ℕ) → Event  -- of its kernel
+  Arrives : (at : Side) (here : Setting) (bytes : List ℕ) → Event  -- of the network
 
 -- a segment that was sealed, and where (own)
 pub record Made : Type 0 where
@@ -73,10 +72,10 @@ after_arriving w at (Err why) = w
 
 -- the world after an event, over this pair (own)
 abbrev pub step : Pair → World → Event → World
-step pair w (Leaves at rows now bytes) =
-    after_leaving w at (outbound rows (pair_at pair at) now (kept_at w at) bytes)
-step pair w (Arrives at rows now bytes) =
-    after_arriving w at (inbound rows (pair_at pair at) now (kept_at w at) bytes)
+step pair w (Leaves at here bytes) =
+    after_leaving w at (outbound here (pair_at pair at) (kept_at w at) bytes)
+step pair w (Arrives at here bytes) =
+    after_arriving w at (inbound here (pair_at pair at) (kept_at w at) bytes)
 
 -- the world after events, the newest first (own)
 abbrev pub run : Pair → List Event → World
@@ -103,12 +102,12 @@ WasSealed at m (one ∷ past) = (one ≡ record { maker = at; sent = m }) ⊎ Wa
 -- the kernel of an end gave these bytes in one of the events (own)
 abbrev pub Gave : Side → List ℕ → List Event → Type 0
 Gave at bytes [] = ⊥
-Gave at bytes (Leaves side rows now given ∷ past) =
+Gave at bytes (Leaves side here given ∷ past) =
     ((side ≡ at) × (given ≡ bytes)) ⊎ Gave at bytes past
-Gave at bytes (Arrives side rows now given ∷ past) = Gave at bytes past
+Gave at bytes (Arrives side here given ∷ past) = Gave at bytes past
 
 -- all bytes are bytes: below 256 (own)
 abbrev pub IsBytewise : List Event → Type 0
 IsBytewise [] = Unit {0}
-IsBytewise (Leaves side rows now bytes ∷ past) = AreBytes bytes × IsBytewise past
-IsBytewise (Arrives side rows now bytes ∷ past) = AreBytes bytes × IsBytewise past
+IsBytewise (Leaves side here bytes ∷ past) = AreBytes bytes × IsBytewise past
+IsBytewise (Arrives side here bytes ∷ past) = AreBytes bytes × IsBytewise past
