@@ -1,0 +1,114 @@
+-- What becomes of a datagram from the peer (RFC 5925, section 7.5). The file's tops: `take_in` and
+-- `inbound`.
+use Rattle.std.specs.Prelude.{ℕ, ◌+◌, ◌&&◌, ◌||◌, Bool, not, max, nat_lt, if◌then◌else◌, List}
+use Rattle.std.specs.Prelude.{Option, Some, None, is_some, Result, Ok, Err}
+use Rattle.book_base.specs.declared.address.Pair.{Pair}
+use Rattle.book_base.specs.Results.{◌>>=◌}
+use Rattle.book_segments.specs.Segments.{Segment, Reading, Bad as Unread, Read, reading, has, good}
+use Rattle.book_segments.specs.Segments.{SYN, ACK, RST, segment_length}
+use Rattle.book_keys.specs.Coordination.{follow}
+use Rattle.book_endpoint.specs.declared.verdict.Verdict.TheVariants.{NoContext}
+use Rattle.book_endpoint.specs.Verdicts.{Finding, Judgement, Known, judge}
+use Rattle.book_endpoint.specs.Arrivals.{from_peer}
+use Rattle.book_shim.specs.declared.refusal.Untaken.{Untaken}
+use Rattle.book_shim.specs.declared.refusal.Untaken.TheVariants.{Bad, Foreign, Checksum, Refused}
+use Rattle.book_shim.specs.declared.kept.Isns.{Isns}
+use Rattle.book_shim.specs.declared.kept.Kept.{Kept}
+use Rattle.book_shim.specs.Keeping.{Setting, is_the_number, are_isns, is_opening_syn, answered_isn}
+use Rattle.book_shim.specs.Keeping.{connection_begun, demand}
+use Rattle.book_shim.specs.Relaying.{coming_area, most_mss, relaid}
+
+-- what is handed to the own kernel in place of a datagram from the peer, and what is kept (own)
+pub record Opened : Type 0 where
+  pub kept : Kept
+  pub passed : Finding  -- what the check found
+  pub segment : Segment
+
+-- the SYN with ACK answers the own SYN that is out, or is the connection's in use, again (own)
+abbrev pub is_awaited : Kept → Segment → Bool
+is_awaited g d =
+    is_the_number g.opening (answered_isn d) || are_isns g.isns (answered_isn d) d.sequence
+
+-- what is known for a segment without SYN: the numbers of the connection in use (RFC 5925, section
+-- 5.2)
+abbrev pub known_in : Option Isns → (heard : ℕ) → Known
+known_in None heard = record { own_isn = 0; peer_isn = None; expected = None }
+known_in (Some c) heard = record { own_isn = c.own; peer_isn = Some c.peer; expected = Some heard }
+
+-- what is known for a segment: with SYN the number that it answers (RFC 5925, section 5.2)
+abbrev pub known_for : Kept → Segment → Known
+known_for g d =
+    if has SYN d then record { own_isn = answered_isn d; peer_isn = None; expected = None }
+    else known_in g.isns g.heard
+
+-- the verdict on a segment from the peer; a SYN with ACK that isn't awaited has no context (RFC
+-- 5925, section 7.5, and own)
+unfoldable pub judged_arrival : Setting → Pair → Kept → Segment → Judgement
+judged_arrival here pair g d =
+    if has SYN d && has ACK d && not (is_awaited g d) then Err NoContext
+    else judge here.rows pair (known_for g d) here.now d
+
+-- the verdict as an answer about a datagram (own)
+abbrev pub as_taken : Judgement → Result Finding Untaken
+as_taken (Ok p) = Ok p
+as_taken (Err why) = Err (Refused why)
+
+-- what is kept once a SYN with ACK passed: with it the connection begins whose own SYN was out (RFC
+-- 9293, section 3.5)
+abbrev pub joined : Kept → (own peer : ℕ) → Kept
+joined g own peer = if is_the_number g.opening own then connection_begun g own peer else g
+
+-- what is kept once a segment passed: a SYN without ACK may be a replay, and changes nothing (own)
+abbrev pub admitted : Kept → Segment → Kept
+admitted g d = if has SYN d && has ACK d then joined g (answered_isn d) d.sequence else g
+
+-- the greatest number moves, but by a SYN without ACK: it isn't of the connection in use (own)
+abbrev pub past_heard : Kept → Segment → ℕ → Kept
+past_heard g d n =
+    if is_opening_syn d then g else record g { heard = max g.heard (n + segment_length d) }
+
+-- a segment that passed may be a replay: a SYN where a connection is in use or opening, and what
+-- ends before what was heard (own)
+abbrev pub may_be_replayed : Kept → Segment → (number : ℕ) → Bool
+may_be_replayed g d n =
+    if is_opening_syn d then is_some g.isns || is_some g.opening
+    else nat_lt (n + segment_length d) (admitted g d).heard
+
+-- the RNextKeyID that is followed of a segment that passed: that of a RST isn't, nor that of what
+-- may be a replay (RFC 5925, section 7.5; what isn't: own)
+abbrev pub asked_id : Kept → Segment → Finding → Option ℕ
+asked_id g d p =
+    if has RST d || may_be_replayed g d p.number then None else Some p.rnext_key_id
+
+-- the current row once this key identifier is asked for, if one is (RFC 5925, section 7.5)
+abbrev pub row_asked : Setting → Pair → (current asked : Option ℕ) → Option ℕ
+row_asked here pair current None = current
+row_asked here pair current (Some id) = follow current here.rows pair id here.now
+
+-- what is handed on of a segment that passed, and what is kept then (own)
+abbrev pub handed_on : Setting → Pair → Kept → Segment → Finding → Opened
+handed_on here pair g d p = record {
+  kept = record (past_heard (admitted g d) d p.number) {
+    current = row_asked here pair g.current (asked_id g d p);
+  };
+  passed = p;
+  segment = relaid d (coming_area (most_mss here.mtu d) d.area);
+}
+
+-- what is handed to the own kernel in place of a datagram from the peer, or the first of these
+-- refusals that holds (RFC 5925, section 7.5, and own)
+unfoldable pub take_in : Setting → Pair → Kept → Segment → Result Opened Untaken
+take_in here pair g d = do
+  right ← demand (good d) Checksum
+  p ← as_taken (judged_arrival here pair g d)
+  Ok (handed_on here pair g d p)
+
+-- what is handed to the own kernel in place of what was read (own)
+abbrev pub take_read : Setting → Pair → Kept → Reading → Result Opened Untaken
+take_read here pair g (Unread fault) = Err (Bad fault)
+take_read here pair g (Read d) =
+    if from_peer pair d then take_in here pair g d else Err Foreign
+
+-- what is handed to the own kernel in place of bytes that came (own)
+abbrev pub inbound : Setting → Pair → Kept → List ℕ → Result Opened Untaken
+inbound here pair g bytes = take_read here pair g (reading bytes)
