@@ -1,0 +1,3 @@
+pub mod Relied
+pub mod Stays
+pub mod Told
