@@ -2,6 +2,8 @@
 //! and of what the report says of them alone. Theorems alone, as contracts of empty functions.
 #![tactic(auto)]
 
+mod endings;
 mod seen;
 
+pub use endings::ends_only_so;
 pub use seen::{acknowledges_received, is_reliable, what_is_seen};
