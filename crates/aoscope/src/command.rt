@@ -34,7 +34,7 @@ pub(crate) fn command<'a>(alloc: Global) -> Result<Command<'a>, AllocError> {
         .about(LINES_ABOUT)
         .after_help(LINES_AFTER);
     let program = Command::new(alloc, "aoscope")
-        .version("0.1.0")
+        .version("0.2.0")
         .about(ABOUT)
         .after_help(AFTER)
         .subcommand_required(true)

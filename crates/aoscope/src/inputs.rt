@@ -1,5 +1,6 @@
 //! What a word reads and writes: arguments, files, standard input and output.
 use crate::halt::Halt;
+use crate::unopened::tell_unopened;
 use ao_base::{ReadProblem, ReadSource, WriteSink, read_all, write_all};
 use book_base::Bytes;
 use clap::ArgMatches;
@@ -37,10 +38,15 @@ fn read_or(read: Result<Bytes, ReadProblem>, long: Halt) -> Result<Bytes, Halt> 
     }
 }
 
-/// The bytes of the file at this path, so many at most.
+/// The bytes of the file at this path, so many at most. Where it isn't opened, which and why is told.
 fn file_at(rt: &HostRuntime, path: &str, most: u64) -> Result<Bytes, ReadProblem> {
-    let file = File::open(rt, path).map_err(|_| ReadProblem::Fault)?;
-    read_all(rt.alloc(), &mut ReadSource::new(file), most)
+    match File::open(rt, path) {
+        Ok(file) => read_all(rt.alloc(), &mut ReadSource::new(file), most),
+        Err(error) => {
+            let _ = tell_unopened(rt, path, &error);
+            Err(ReadProblem::Fault)
+        }
+    }
 }
 
 /// The text of the key file at this path.

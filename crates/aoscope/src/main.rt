@@ -12,6 +12,7 @@ mod plan;
 mod session_ladder;
 mod sessions;
 mod sessions_page;
+mod unopened;
 mod why;
 
 use ao_base::{ReadSource, WriteSink};

@@ -43,6 +43,27 @@ fn print(rt: &HostRuntime, text: &[u8]) -> u8 {
     }
 }
 
+/// The system's reason why a file isn't opened.
+fn reason(error: &io::Error) -> &'static [u8] {
+    match error.raw_os_error() {
+        Some(2) => b"no such file or directory",
+        Some(13) => b"permission denied",
+        Some(20) => b"not a directory",
+        Some(36) => b"file name too long",
+        Some(40) => b"too many symbolic links",
+        _ => b"it can't be opened",
+    }
+}
+
+/// Tells which file isn't opened, and why.
+fn tell_unopened(rt: &HostRuntime, path: &[u8], error: &io::Error) -> Result<(), Failed> {
+    let mut err = WriteSink::new(rt.stderr());
+    write_all(&mut err, path)?;
+    write_all(&mut err, b": ")?;
+    write_all(&mut err, reason(error))?;
+    write_all(&mut err, b"\n")
+}
+
 fn open(rt: &HostRuntime, path: &[u8]) -> io::Result<File> {
     match str::from_utf8(path) {
         Ok(path) => File::open(rt, path),
@@ -68,7 +89,10 @@ fn run_words(rt: &HostRuntime, words: &Words) -> u8 {
         }
         Some(path) => match open(rt, path) {
             Ok(file) => run_over(rt, &asked, &mut ReadSource::new(file)),
-            Err(_) => run_over(rt, &asked, &mut ReadSource::new(Unopened)),
+            Err(error) => {
+                let _ = tell_unopened(rt, path, &error);
+                run_over(rt, &asked, &mut ReadSource::new(Unopened))
+            }
         },
     }
 }

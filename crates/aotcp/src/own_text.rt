@@ -1,6 +1,6 @@
 //! The two texts that the program tells of itself.
 ghost use Rattle.std.specs.Prelude.{◌≡◌};
-ghost use Rattle.aotcp.specs.OwnTexts.{asked_by, text_of};
+ghost use Rattle.aotcp.specs.OwnTexts.{asked_alone, asked_by, is_help, text_of};
 
 use book_base::Words;
 
@@ -21,6 +21,26 @@ Status 0: done; 1: done, with something amiss; 2: usage; 3: key file; 4: input;
 5: a read failed; 6: a write failed; 7: out of memory.
 ";
 
+/// Whether the word asks for help, behind a command too.
+fn is_help(word: &[u8]) -> bool
+    ensures { result ≡ is_help word.now }
+{
+    word == b"--help".as_slice() || word == b"-h".as_slice()
+}
+
+/// What a word that stands alone asks for.
+fn asked_alone(word: &[u8]) -> Option<OwnText>
+    ensures { result ≡ asked_alone word.now }
+{
+    if is_help(word) || word == b"help".as_slice() {
+        Some(OwnText::Help)
+    } else if word == b"--version".as_slice() || word == b"-V".as_slice() {
+        Some(OwnText::Version)
+    } else {
+        None
+    }
+}
+
 /// What the words may ask of the program itself.
 #[derive(Clone, Copy)]
 pub(crate) enum OwnText {
@@ -29,13 +49,13 @@ pub(crate) enum OwnText {
 }
 
 impl OwnText {
-    /// What the words ask for; None exactly where they aren't `--help` or `--version` alone.
+    /// What the words ask for; None where they ask nothing of the program itself.
     pub(crate) fn asked(words: &Words) -> Option<OwnText>
         ensures { result ≡ asked_by words.now }
     {
         match words.as_slice() {
-            [word] if word.as_slice() == b"--help".as_slice() => Some(OwnText::Help),
-            [word] if word.as_slice() == b"--version".as_slice() => Some(OwnText::Version),
+            [word] => asked_alone(word.as_slice()),
+            [_, word] if is_help(word.as_slice()) => Some(OwnText::Help),
             _ => None,
         }
     }
@@ -46,7 +66,7 @@ impl OwnText {
     {
         match self {
             OwnText::Help => HELP,
-            OwnText::Version => b"aotcp 0.1.0\n",
+            OwnText::Version => b"aotcp 0.2.0\n",
         }
     }
 }
