@@ -1,4 +1,5 @@
--- What is kept of a pair of sockets whose datagrams pass through: `begun` is the file's top.
+-- What is kept of a pair of sockets whose datagrams pass through: `connection_begun` is the file's
+-- top.
 use Rattle.std.specs.Prelude.{ℕ, ◌+◌, ◌-◌, ◌%◌, ◌==◌, Bool, true, false, not, ◌&&◌, List}
 use Rattle.std.specs.Prelude.{Option, Some, None, option_map, Result, Ok, Err}
 use Rattle.book_segments.specs.Bytes.{ring}
