@@ -1,5 +1,5 @@
 -- Which arrivals close an end: a reset, or the acknowledgement of the own FIN in LAST-ACK.
-use Rattle.std.proofs.Common.{◌≡◌, ℕ, ◌+◌, ◌-◌, ◌%◌, ◌==◌, nat_lt, nat_le, Bool, true, false, not, ◌&&◌, ◌||◌, List, length, Option, Some, None, ◌⊎◌, inl, inr, if◌then◌else◌, refl, sym, ap, ◌∙◌, Ok, Err, subst}
+use Rattle.std.proofs.Common.{◌≡◌, ℕ, ◌+◌, ◌-◌, ◌%◌, ◌==◌, nat_lt, nat_le, Bool, true, false, not, ◌&&◌, ◌||◌, List, length, Option, Some, None, ◌⊎◌, inl, inr, refl, Ok, Err, subst}
 use Rattle.book_base.specs.declared.address.Pair.{Pair}
 use Rattle.book_segments.specs.Bytes.{ring}
 use Rattle.book_segments.specs.Meant.{meant}
@@ -7,9 +7,9 @@ use Rattle.book_segments.specs.Received.{keep, first_missing, runs, below_limit}
 use Rattle.book_segments.specs.Segments.{Segment, Reading, Read, Bad as Unread, good, has, segment_length, ACK, FIN, RST, SYN}
 use Rattle.book_keys.specs.Rows.{Row}
 use Rattle.book_endpoint.specs.declared.arrival.Arrival.{Arrival}
-use Rattle.book_endpoint.specs.declared.arrival.Arrival.TheVariants.{Bad, Foreign, Checksum, Closed as AtClosed, Refused, Unexpected, Window, Challenge, NoAck, BadAck, TooManyRuns, Reset, Taken}
+use Rattle.book_endpoint.specs.declared.arrival.Arrival.TheVariants.{Bad, Foreign, Checksum, Closed as AtClosed, Refused, Unexpected, Challenge, NoAck, BadAck, Reset}
 use Rattle.book_endpoint.specs.declared.phase.Phase.{Phase}
-use Rattle.book_endpoint.specs.declared.phase.Phase.TheVariants.{Listen, SynSent, SynReceived, Established, FinWait1, FinWait2, CloseWait, Closing, LastAck, TimeWait, Closed}
+use Rattle.book_endpoint.specs.declared.phase.Phase.TheVariants.{Listen, SynSent, SynReceived, Established, FinWait1, FinWait2, Closing, LastAck, TimeWait}
 use Rattle.book_endpoint.specs.States.{EndState, window, hears, is_closed}
 use Rattle.book_endpoint.specs.Verdicts.{Judgement}
 use Rattle.book_endpoint.specs.Arrivals.{Arrived, syn_alone, syn_ack_alone, unmoved, heard, judged_by, from_peer, arrive}

@@ -12,7 +12,7 @@ use Rattle.book_endpoint.specs.Arrivals.{Arrived, arrive}
 use Rattle.book_endpoint.specs.declared.phase.Phase.{Phase}
 use Rattle.book_endpoint.specs.declared.phase.Phase.TheVariants.{Listen as Listening, SynSent, LastAck, TimeWait, Closed}
 use Rattle.book_endpoint.specs.Emissions.{Emitted, Quiet, NoKey, Emits, emit, resend}
-use Rattle.book_endpoint.specs.States.{EndState, connected, listening, started, is_closed, room, gives, give, close_in, abort, is_due, tick_in, tick}
+use Rattle.book_endpoint.specs.States.{EndState, connected, listening, started, is_closed, room, gives, give, close_in, is_due, tick_in, tick}
 use Rattle.book_link.specs.declared.event.Fixing.{Fixing}
 use Rattle.book_link.specs.Alterations.{Alteration, has_place, altered}
 use Rattle.book_link.specs.declared.event.Event.{Event}
@@ -21,10 +21,10 @@ use Rattle.book_link.specs.declared.event.Action.TheVariants.{Clock, Connect, Li
 use Rattle.book_link.specs.Outcomes.{Outcome, Done, Full, HasClosed, Idle, Nothing, Answered, NoPlace}
 use Rattle.book_link.specs.Runs.{empty, run_from, run}
 use Rattle.book_link.specs.Steps.{View, Stepped, Act, add, quietly, put, with_clock, with_table, with_sessions, ticked, acted, act_on, on_live, begin, given, sent, took, come, deliver, alter, add_row, withdraw, step, view_of}
-use Rattle.book_link.specs.Worlds.{Setup, pair_of, Session, LinkSide, Made, Came, Happening, Coming, World, side, find, live, partner, segment_named, forgeries}
-use Rattle.law_link.specs.Laws.{SetupFits, EventFits, PartnerAborted}
+use Rattle.book_link.specs.Worlds.{Setup, pair_of, Session, LinkSide, Made, Came, Happening, World, side, find, live, partner, segment_named, forgeries}
+use Rattle.law_link.specs.Laws.{SetupFits, EventFits}
 use Rattle.law_link.specs.Sessions.{ReceivesFrom, ReceivesGiven}
-use Rattle.law_link.proofs.Invariant.{AllSound, Inv}
+use Rattle.law_link.proofs.Invariant.{Inv}
 use Rattle.law_link.proofs.Origin.{resets_by_abort}
 use Rattle.law_link.proofs.Phases.{fin_made, waits}
 use Rattle.law_link.proofs.Receiving.{receives_given}
@@ -34,7 +34,7 @@ use Rattle.law_link.proofs.Sound.{Sound}
 use Rattle.law_link.proofs.Tests.{choose}
 use Rattle.law_seen.proofs.Closes.{arrive_closes}
 use Rattle.law_seen.proofs.Past.{Past, is_past, arrive_past, emit_goes, resend_goes, Emitting as Goes}
-use Rattle.law_seen.proofs.Stays.{core, Emitting, arrive_core, emit_emitting, resend_emitting}
+use Rattle.law_seen.proofs.Stays.{Emitting, arrive_core, emit_emitting, resend_emitting}
 use Rattle.law_seen.specs.Endings.{Opens, PartnerClosed, ClosesSo, EndsOnlySo}
 
 -- ---- a call

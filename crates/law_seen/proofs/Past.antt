@@ -1,15 +1,14 @@
 -- A session in a phase past the peer's FIN has recorded that FIN; and what an end makes closes no end.
-use Rattle.std.proofs.Common.{◌≡◌, ℕ, ◌+◌, ◌-◌, ◌%◌, ◌==◌, nat_lt, nat_le, min, Bool, true, false, not, ◌&&◌, ◌||◌, List, length, Option, Some, None, if◌then◌else◌, refl, sym, ap, ◌∙◌, Ok, Err, subst}
+use Rattle.std.proofs.Common.{◌≡◌, ℕ, ◌+◌, ◌-◌, ◌%◌, ◌==◌, nat_lt, nat_le, min, Bool, true, false, not, ◌&&◌, ◌||◌, List, length, Option, Some, None, refl, sym, Ok, Err, subst}
 use Rattle.book_base.specs.declared.address.Pair.{Pair}
 use Rattle.book_segments.specs.Bytes.{ring}
 use Rattle.book_segments.specs.Meant.{meant}
 use Rattle.book_segments.specs.Received.{keep, first_missing, runs, below_limit}
 use Rattle.book_segments.specs.Segments.{Segment, Reading, Read, Bad as Unread, good, has, segment_length, ACK, FIN, RST, SYN}
 use Rattle.book_keys.specs.Rows.{Row}
-use Rattle.book_endpoint.specs.declared.arrival.Arrival.{Arrival}
-use Rattle.book_endpoint.specs.declared.arrival.Arrival.TheVariants.{Bad, Foreign, Checksum, Closed as AtClosed, Refused, Unexpected, Window, Challenge, NoAck, BadAck, TooManyRuns, Reset, Taken}
+use Rattle.book_endpoint.specs.declared.arrival.Arrival.TheVariants.{Foreign, Checksum, Closed as AtClosed, Unexpected, Challenge, NoAck, BadAck}
 use Rattle.book_endpoint.specs.declared.phase.Phase.{Phase}
-use Rattle.book_endpoint.specs.declared.phase.Phase.TheVariants.{Listen, SynSent, SynReceived, Established, FinWait1, FinWait2, CloseWait, Closing, LastAck, TimeWait, Closed}
+use Rattle.book_endpoint.specs.declared.phase.Phase.TheVariants.{Listen, SynSent, SynReceived, Established, FinWait1, CloseWait, Closing, LastAck, TimeWait}
 use Rattle.book_endpoint.specs.States.{EndState, window, hears, is_closed}
 use Rattle.book_endpoint.specs.Verdicts.{Judgement}
 use Rattle.book_endpoint.specs.Arrivals.{Arrived, syn_alone, syn_ack_alone, unmoved, heard, judged_by, from_peer, arrive}
@@ -17,7 +16,6 @@ use Rattle.book_endpoint.specs.Hearing.{Moved, answered, owing, above, fits_wind
 use Rattle.endpoint_steps.specs.Arriving.{heard_runs, hear_data, go_on, acknowledged, reset, ordinary, after_check, arrive_judged, arrive_read}
 use Rattle.endpoint_steps.proofs.Arriving.{read_by_cases}
 use Rattle.law_link.proofs.Tests.{choose}
-
 use Rattle.std.specs.Prelude.{⊤, is_some}
 use Rattle.book_macs.specs.Contexts.{context_of}
 use Rattle.book_keys.specs.Coordination.{Sending, choose as choose_row}

@@ -1,5 +1,5 @@
 -- What is seen of a run is reliable: the laws of its states, said of what is seen.
-use Rattle.std.proofs.Common.{◌≡◌, ℕ, ◌+◌, ◌-◌, ◌≤◌, ◌<◌, ◌==◌, min, nat_lt, Bool, true, false, ◌&&◌, List, [], ◌∷◌, ◌++◌, length, take, Option, Some, None, if◌then◌else◌, refl, sym, ap, ◌∙◌, subst, arith, append_assoc, length-append, length-take}
+use Rattle.std.proofs.Common.{◌≡◌, ℕ, ◌+◌, ◌-◌, ◌≤◌, ◌==◌, min, nat_lt, Bool, true, false, ◌&&◌, List, [], ◌∷◌, ◌++◌, length, Option, Some, None, if◌then◌else◌, refl, sym, ap, ◌∙◌, subst, arith, append_assoc, length-append, length-take}
 use Rattle.std.specs.List.{AllByRecursion, AllZip}
 use Rattle.std.proofs.lemmas.Bool.Decides.{nat_tests}
 use Rattle.book_base.specs.declared.end.End.{End}
@@ -8,13 +8,10 @@ use Rattle.book_segments.specs.Received.{below_limit, bytes_from}
 use Rattle.book_segments.specs.Segments.{bit_of}
 use Rattle.book_endpoint.specs.States.{EndState, first, ready_at, ready_count, ready, passed_fin, taking, take_out, at_end}
 use Rattle.book_link.specs.declared.event.Event.{Event}
-use Rattle.book_link.specs.declared.event.Event.TheVariants.{At}
-use Rattle.book_link.specs.declared.event.Action.TheVariants.{Take}
-use Rattle.book_link.specs.Outcomes.{Took}
 use Rattle.book_link.specs.Runs.{run}
-use Rattle.book_link.specs.Steps.{act_on, took, step}
+use Rattle.book_link.specs.Steps.{act_on, took}
 use Rattle.book_link.specs.Worlds.{other, Setup, Session, World, side, find, partner, forgeries}
-use Rattle.law_link.specs.Headline.{IsPrefixOf, ComesFrom, DeliversInOrder, IsWhole, ShowsEnds}
+use Rattle.law_link.specs.Headline.{IsPrefixOf, ComesFrom, IsWhole}
 use Rattle.law_link.specs.Laws.{SetupFits, EventFits}
 use Rattle.law_link.proofs.Invariant.{AllWhole, Distinct}
 use Rattle.law_link.proofs.Lists.{length-bytes_from}
@@ -24,7 +21,7 @@ use Rattle.law_link.proofs.Running.{run_inv}
 use Rattle.law_link.proofs.Sessions.{find_own, partner_is}
 use Rattle.law_link.proofs.Whole.{Whole}
 use Rattle.law_seen.proofs.Told.{Match, seen_match}
-use Rattle.law_seen.specs.Seen.{Seen, seen, HasLine, ArePeers, EachTwoPeers, IsNobodysPeer, IsReliable, ReliableUnlessForged, WouldTake, AcknowledgesReceived}
+use Rattle.law_seen.specs.Seen.{Seen, seen, HasLine, ArePeers, ReliableUnlessForged, WouldTake, AcknowledgesReceived}
 use Rattle.law_seen.specs.Summaries.{SaysSeen, SummarySaysSeen}
 
 -- ---- lists

@@ -1,4 +1,4 @@
--- What was given and taken, and whether the user closed or aborted, stays as it is whatever comes and whatever is made.
+-- What was given and taken, and whether the user closed, stays as it is whatever comes and whatever is made.
 use Rattle.std.proofs.Common.{◌≡◌, ℕ, ◌+◌, ◌-◌, ◌%◌, ◌==◌, min, nat_lt, nat_le, Bool, true, false, not, ◌&&◌, ◌||◌, List, length, Option, Some, None, if◌then◌else◌, unwrap_or, refl, Ok, Err, subst, sym, arith, ◌≤◌}
 use Rattle.std.specs.Prelude.{⊤, is_some}
 use Rattle.book_base.specs.declared.address.Pair.{Pair}
@@ -29,10 +29,9 @@ pub record Core : Type 0 where
   pub given : List ℕ
   pub taken : List ℕ
   pub closing : Bool
-  pub aborted : Bool
 
 abbrev pub core : EndState → Core
-core s = record { isn = s.isn; given = s.given; taken = s.taken; closing = s.closing; aborted = s.aborted }
+core s = record { isn = s.isn; given = s.given; taken = s.taken; closing = s.closing }
 
 abbrev Has : Core → EndState → Type 0
 Has g s = core s ≡ g

@@ -1,5 +1,5 @@
 -- What is seen of each session is what it keeps: each step, and so each run, keeps it so.
-use Rattle.std.proofs.Common.{◌≡◌, ℕ, ◌≤◌, ◌<◌, ◌^◌, max, Bool, true, false, not, ◌||◌, nat_lt, List, [], ◌∷◌, ◌++◌, length, replicate, unwrap_or, Option, Some, None, if◌then◌else◌, refl, sym, ap, ◌∙◌, subst, arith}
+use Rattle.std.proofs.Common.{◌≡◌, ℕ, ◌≤◌, ◌<◌, max, Bool, true, false, not, ◌||◌, nat_lt, List, [], ◌∷◌, ◌++◌, length, replicate, unwrap_or, Option, Some, None, if◌then◌else◌, refl, sym, ap, ◌∙◌, subst, arith}
 use Rattle.std.specs.List.{AllByRecursion, AllZip}
 use Rattle.book_base.specs.declared.end.End.{End}
 use Rattle.book_base.specs.declared.end.End.TheVariants.{A, B}
@@ -11,16 +11,16 @@ use Rattle.book_keys.specs.Tables.{Adding, AddedAs, TooMany, OverlapsRow, adding
 use Rattle.book_endpoint.specs.declared.phase.Phase.{Phase}
 use Rattle.book_endpoint.specs.declared.phase.Phase.TheVariants.{Listen as Listening, SynSent, TimeWait, Closed}
 use Rattle.book_endpoint.specs.Emissions.{Emitted, Quiet, NoKey, Emits, emit, resend}
-use Rattle.book_endpoint.specs.States.{EndState, connected, listening, started, room, gives, give, taking, take_out, at_end, close_in, abort, is_due, tick_in, tick}
+use Rattle.book_endpoint.specs.States.{EndState, connected, listening, started, room, gives, give, taking, take_out, at_end, close_in, abort, is_due, tick_in}
 use Rattle.book_link.specs.declared.event.Fixing.{Fixing}
 use Rattle.book_link.specs.Alterations.{has_place, altered}
 use Rattle.book_link.specs.declared.event.Action.{Action}
 use Rattle.book_link.specs.declared.event.Event.{Event}
 use Rattle.book_link.specs.declared.event.Event.TheVariants.{At, Dump}
 use Rattle.book_link.specs.declared.event.Action.TheVariants.{Clock, Connect, Listen, Start, Give, Fill, Send, Resend, Deliver, Inject, Alter, Take, Close, Abort, AddRow, Withdraw}
-use Rattle.book_link.specs.Outcomes.{Outcome, Done, Sent, Took, IsnUsed, Added, NoSession, NoSegment, NoPlace, Full, HasClosed, Idle, Nothing, WithoutKey, TooManyRows, OverlapWith, NoRow}
+use Rattle.book_link.specs.Outcomes.{Outcome, Done, Sent, IsnUsed, Added, NoSession, NoSegment, NoPlace, Full, HasClosed, Idle, Nothing, WithoutKey, TooManyRows, OverlapWith, NoRow}
 use Rattle.book_link.specs.Runs.{empty, run_from, run, outcomes_from}
-use Rattle.book_link.specs.Steps.{View, Stepped, Act, quietly, put, with_clock, with_table, with_sessions, ticked, acted, act_on, on_live, begin, given, sent, send, send_again, took, come, deliver, alter, add_row, withdraw, step, view_of}
+use Rattle.book_link.specs.Steps.{View, Stepped, Act, quietly, put, with_clock, with_table, with_sessions, ticked, acted, act_on, on_live, begin, given, sent, took, come, deliver, alter, add_row, withdraw, step, view_of}
 use Rattle.book_link.specs.Worlds.{same_end, Setup, pair_of, Session, LinkSide, Made, Happening, World, side, find, segment_named}
 use Rattle.law_link.specs.Laws.{SetupFits, EventFits}
 use Rattle.law_link.proofs.ByteLists.{altered_bytes}
@@ -40,7 +40,6 @@ pub record Match (one : Seen) (s : Session) : Type 0 where
   pub gave : one.gave ≡ s.state.given
   pub got : one.got ≡ s.state.taken
   pub closed : s.state.closing ≡ true → one.closed ≡ true
-  pub aborted : s.state.aborted ≡ true → one.aborted ≡ true
   pub end_told : one.end_told ≡ s.end_shown
   pub acknowledged : one.acknowledged ≤ s.state.expected
 
@@ -63,7 +62,6 @@ same_match one s act same up hidden h =
       gave = h.gave ∙ ap (λ c. c.given) (sym same);
       got = h.got ∙ ap (λ c. c.taken) (sym same);
       closed = λ e. h.closed (ap (λ c. c.closing) (sym same) ∙ e);
-      aborted = λ e. h.aborted (ap (λ c. c.aborted) (sym same) ∙ e);
       end_told = h.end_told ∙ or_none s.end_shown act.shown hidden;
       acknowledged = omega arith;
     }
@@ -85,7 +83,6 @@ given_seen action piece one s done full shut h =
       gave = ap (λ (l : List ℕ). l ++ piece) h.gave;
       got = h.got;
       closed = h.closed;
-      aborted = h.aborted;
       end_told = h.end_told ∙ or_none s.end_shown false refl;
       acknowledged = h.acknowledged;
     })))
@@ -114,7 +111,6 @@ sent_seen action v without one s (Emits out) tells idle keyless made up h =
       gave = now.gave;
       got = now.got;
       closed = now.closed;
-      aborted = now.aborted;
       end_told = now.end_told;
       acknowledged = both_low one.acknowledged (unwrap_or out.acknowledged 0) act.state.expected before (omega arith);
     })
@@ -126,19 +122,18 @@ took_seen count one s h =
       gave = h.gave;
       got = ap (λ (l : List ℕ). l ++ taking count s.state) h.got;
       closed = h.closed;
-      aborted = h.aborted;
       end_told = ap (λ (b : Bool). b || at_end (take_out count s.state)) h.end_told;
       acknowledged = h.acknowledged;
     }
 
 close_seen : (one : Seen) (s : Session) (phase : Phase) → Match one s → Match (record one { closed = true }) (acted s (quietly (close_in phase s.state) Done))
-close_seen one s Listening h = record { isn = h.isn; gave = h.gave; got = h.got; closed = λ e. refl; aborted = h.aborted; end_told = h.end_told ∙ or_none s.end_shown false refl; acknowledged = h.acknowledged }
-close_seen one s SynSent h = record { isn = h.isn; gave = h.gave; got = h.got; closed = λ e. refl; aborted = h.aborted; end_told = h.end_told ∙ or_none s.end_shown false refl; acknowledged = h.acknowledged }
-close_seen one s Closed h = record { isn = h.isn; gave = h.gave; got = h.got; closed = λ e. refl; aborted = h.aborted; end_told = h.end_told ∙ or_none s.end_shown false refl; acknowledged = h.acknowledged }
-close_seen one s _ h = record { isn = h.isn; gave = h.gave; got = h.got; closed = λ e. refl; aborted = h.aborted; end_told = h.end_told ∙ or_none s.end_shown false refl; acknowledged = h.acknowledged }
+close_seen one s Listening h = record { isn = h.isn; gave = h.gave; got = h.got; closed = λ e. refl; end_told = h.end_told ∙ or_none s.end_shown false refl; acknowledged = h.acknowledged }
+close_seen one s SynSent h = record { isn = h.isn; gave = h.gave; got = h.got; closed = λ e. refl; end_told = h.end_told ∙ or_none s.end_shown false refl; acknowledged = h.acknowledged }
+close_seen one s Closed h = record { isn = h.isn; gave = h.gave; got = h.got; closed = λ e. refl; end_told = h.end_told ∙ or_none s.end_shown false refl; acknowledged = h.acknowledged }
+close_seen one s _ h = record { isn = h.isn; gave = h.gave; got = h.got; closed = λ e. refl; end_told = h.end_told ∙ or_none s.end_shown false refl; acknowledged = h.acknowledged }
 
-abort_seen : (one : Seen) (s : Session) → Match one s → Match (record one { aborted = true }) (acted s (quietly (abort s.state) Done))
-abort_seen one s h = record { isn = h.isn; gave = h.gave; got = h.got; closed = h.closed; aborted = λ e. refl; end_told = h.end_told ∙ or_none s.end_shown false refl; acknowledged = h.acknowledged }
+abort_seen : (one : Seen) (s : Session) → Match one s → Match one (acted s (quietly (abort s.state) Done))
+abort_seen one s h = record { isn = h.isn; gave = h.gave; got = h.got; closed = h.closed; end_told = h.end_told ∙ or_none s.end_shown false refl; acknowledged = h.acknowledged }
 
 -- ---- a step
 
@@ -195,10 +190,10 @@ ticked_zip now [] (s ∷ rest) h = absurd h
 ticked_zip now (one ∷ ones) (s ∷ rest) h = (tick_match one s (s.state.phase) h.0, h.1)
   where
     closed_match : (one : Seen) (s : Session) → Match one s → Match one (record { state = record (s.state) { phase = Closed }; end_shown = s.end_shown })
-    closed_match one s h = record { isn = h.isn; gave = h.gave; got = h.got; closed = h.closed; aborted = h.aborted; end_told = h.end_told; acknowledged = h.acknowledged }
+    closed_match one s h = record { isn = h.isn; gave = h.gave; got = h.got; closed = h.closed; end_told = h.end_told; acknowledged = h.acknowledged }
 
     same_session : (one : Seen) (s : Session) → Match one s → Match one (record { state = s.state; end_shown = s.end_shown })
-    same_session one s h = record { isn = h.isn; gave = h.gave; got = h.got; closed = h.closed; aborted = h.aborted; end_told = h.end_told; acknowledged = h.acknowledged }
+    same_session one s h = record { isn = h.isn; gave = h.gave; got = h.got; closed = h.closed; end_told = h.end_told; acknowledged = h.acknowledged }
 
     tick_match : (one : Seen) (s : Session) (phase : Phase) → Match one s → Match one (record { state = tick_in phase now s.state; end_shown = s.end_shown })
     tick_match one s TimeWait h =
@@ -222,9 +217,9 @@ withdraw_match w e n (Some rows) seens h =
     let same = idle_change (Withdraw n) (record { none = λ o. refl; some = λ o one rest. refl }) (λ o one. refl) in
     put_match w e (with_table (side w e) rows) None seens (sessions_then (Withdraw n) Done) h (subst (λ (l : List Seen). AllZip Match l (side w e).sessions) (sym (same Done (seens e))) (h e))
 
-opened_match : (s : EndState) → s.given ≡ [] → s.taken ≡ [] → s.closing ≡ false → s.aborted ≡ false → Match (opened s.isn) (record { state = s; end_shown = false })
-opened_match s gave got closed aborted =
-    record { isn = refl; gave = sym gave; got = sym got; closed = λ e. absurd (cc); aborted = λ e. absurd (cc); end_told = refl; acknowledged = omega arith }
+opened_match : (s : EndState) → s.given ≡ [] → s.taken ≡ [] → s.closing ≡ false → Match (opened s.isn) (record { state = s; end_shown = false })
+opened_match s gave got closed =
+    record { isn = refl; gave = sym gave; got = sym got; closed = λ e. absurd (cc); end_told = refl; acknowledged = omega arith }
 
 module _ (setup : Setup) (fits : SetupFits setup) where
   call_match : (w : World) (e : End) (action : Action) (seens : End → List Seen) (call : EndState → Act) → IsCall action → IsSeen action call → Inv setup w → Matches seens w
@@ -260,17 +255,17 @@ module _ (setup : Setup) (fits : SetupFits setup) where
       put_match w e (with_clock (side w e) seconds) None seens (sessions_then (Clock seconds) Done) h
       (subst (λ (l : List Seen). AllZip Match l (ticked seconds (side w e).sessions)) (sym (idle_change (Clock seconds) (record { none = λ o. refl; some = λ o one rest. refl }) (λ o one. refl) Done (seens e)))
       (ticked_zip seconds (seens e) (side w e).sessions (h e)))
-  step_match w (At e (Connect isn)) seens f inv h = begin_match w e (connected (pair_of setup e) isn) (find (side w e).sessions isn) seens (sessions_then (Connect isn)) (used_connect isn) (λ l. refl) (opened_match (connected (pair_of setup e) isn) refl refl refl refl) h
+  step_match w (At e (Connect isn)) seens f inv h = begin_match w e (connected (pair_of setup e) isn) (find (side w e).sessions isn) seens (sessions_then (Connect isn)) (used_connect isn) (λ l. refl) (opened_match (connected (pair_of setup e) isn) refl refl refl) h
     where
       used_connect : (isn : ℕ) (l : List Seen) → sessions_then (Connect isn) IsnUsed l ≡ l
       used_connect isn [] = refl
       used_connect isn (one ∷ l) = refl
-  step_match w (At e (Listen isn)) seens f inv h = begin_match w e (listening (pair_of setup e) isn) (find (side w e).sessions isn) seens (sessions_then (Listen isn)) (used_listen isn) (λ l. refl) (opened_match (listening (pair_of setup e) isn) refl refl refl refl) h
+  step_match w (At e (Listen isn)) seens f inv h = begin_match w e (listening (pair_of setup e) isn) (find (side w e).sessions isn) seens (sessions_then (Listen isn)) (used_listen isn) (λ l. refl) (opened_match (listening (pair_of setup e) isn) refl refl refl) h
     where
       used_listen : (isn : ℕ) (l : List Seen) → sessions_then (Listen isn) IsnUsed l ≡ l
       used_listen isn [] = refl
       used_listen isn (one ∷ l) = refl
-  step_match w (At e (Start isn peer)) seens f inv h = begin_match w e (started (pair_of setup e) isn peer) (find (side w e).sessions isn) seens (sessions_then (Start isn peer)) (used_start isn peer) (λ l. refl) (opened_match (started (pair_of setup e) isn peer) refl refl refl refl) h
+  step_match w (At e (Start isn peer)) seens f inv h = begin_match w e (started (pair_of setup e) isn peer) (find (side w e).sessions isn) seens (sessions_then (Start isn peer)) (used_start isn peer) (λ l. refl) (opened_match (started (pair_of setup e) isn peer) refl refl refl) h
     where
       used_start : (isn peer : ℕ) (l : List Seen) → sessions_then (Start isn peer) IsnUsed l ≡ l
       used_start isn peer [] = refl

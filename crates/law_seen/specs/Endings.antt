@@ -8,7 +8,7 @@
 --   * its user had closed it and its last segment is acknowledged, or TIME-WAIT is over; where no
 --     forgery is counted, its partner's user had closed before too.
 -- So nobody but the two users ends a session, whatever is forged without the key.
-use Rattle.std.specs.Prelude.{◌≡◌, ◌⊎◌, ℕ, true, false, Some, None}
+use Rattle.std.specs.Prelude.{◌≡◌, ◌⊎◌, true, false, Some, None}
 use Rattle.book_base.specs.declared.end.End.{End}
 use Rattle.book_endpoint.specs.States.{is_closed}
 use Rattle.book_endpoint.specs.declared.arrival.Arrival.TheVariants.{Reset}

@@ -26,7 +26,7 @@
 -- `book_link/specs/Worlds`: an arrival whose MAC was found right, though the other end had made
 -- nothing of the kind before.
 use Rattle.std.specs.Prelude.{◌≡◌, ℕ, ◌+◌, ◌≤◌, max, Bool, true, false, ◌||◌, List, [], ◌∷◌, ◌++◌}
-use Rattle.std.specs.Prelude.{length, replicate, Option, Some, None, unwrap_or, if◌then◌else◌}
+use Rattle.std.specs.Prelude.{length, replicate, Some, unwrap_or, if◌then◌else◌}
 use Rattle.std.specs.List.{AllByRecursion}
 use Rattle.book_base.specs.declared.end.End.{End}
 use Rattle.book_segments.specs.Segments.{bit_of}
@@ -34,7 +34,7 @@ use Rattle.book_link.specs.declared.event.Event.{Event}
 use Rattle.book_link.specs.declared.event.Action.{Action}
 use Rattle.book_link.specs.declared.event.Event.TheVariants.{At, Dump}
 use Rattle.book_link.specs.declared.event.Action.TheVariants.{Connect, Listen, Start, Give, Fill}
-use Rattle.book_link.specs.declared.event.Action.TheVariants.{Send, Resend, Take, Close, Abort}
+use Rattle.book_link.specs.declared.event.Action.TheVariants.{Send, Resend, Take, Close}
 use Rattle.book_link.specs.Outcomes.{Outcome, Done, Sent, Took}
 use Rattle.book_link.specs.Runs.{empty, run, outcomes_from}
 use Rattle.book_link.specs.Steps.{step}
@@ -43,15 +43,14 @@ use Rattle.law_link.specs.Headline.{IsPrefixOf}
 
 -- ---- what is seen of a session
 
--- a session, as its user sees it: what it gave and got in all, whether it closed and whether it
--- aborted it, whether a take told it the end of the stream, and the greatest number that the
--- session acknowledged, 0 for none (RFC 9293, section 3.9.1)
+-- a session, as its user sees it: all that it gave and got, whether it closed it, and whether a
+-- take told it the end of the stream; and the greatest number that the session acknowledged, 0 for
+-- none (RFC 9293, section 3.9.1)
 pub record Seen : Type 0 where
   pub isn : ℕ  -- the initial sequence number with which it was opened
   pub gave : List ℕ
   pub got : List ℕ
   pub closed : Bool
-  pub aborted : Bool
   pub end_told : Bool
   pub acknowledged : ℕ
 
@@ -62,21 +61,19 @@ opened isn = record {
   gave = [];
   got = [];
   closed = false;
-  aborted = false;
   end_told = false;
   acknowledged = 0;
 }
 
--- the session after one more action, by its outcome: bytes were given, or taken, it was closed or
--- aborted, or it sent a segment that acknowledges; all else is seen by nobody
--- (RFC 9293, sections 3.9.1.2 to 3.9.1.6)
+-- the session after one more action, by its outcome: bytes were given or taken, it was closed, or
+-- it sent a segment that acknowledges; nothing else changes what is seen of it
+-- (RFC 9293, sections 3.9.1.2 to 3.9.1.4)
 abbrev pub and_then : Action → Outcome → Seen → Seen
 and_then (Give piece) Done s = record s { gave = s.gave ++ piece }
 and_then (Fill count byte) Done s = record s { gave = s.gave ++ replicate count byte }
 and_then (Take count) (Took bytes ended) s =
     record s { got = s.got ++ bytes; end_told = s.end_told || ended }
 and_then Close Done s = record s { closed = true }
-and_then Abort Done s = record s { aborted = true }
 and_then Send (Sent m) s =
     record s { acknowledged = max s.acknowledged (unwrap_or m.emission.acknowledged 0) }
 and_then Resend (Sent m) s =
