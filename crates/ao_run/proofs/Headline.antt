@@ -1,5 +1,6 @@
 -- The headlines, from the contract for every command and the theorems on every run.
 use Rattle.std.proofs.Common.{◌≡◌, ◌↔◌, inl, ℕ, ◌==◌, ◌<◌, ◌≤◌, ◌||◌, ◌&&◌, if◌then◌else◌, List, [], ◌∷◌, length, codes, Bool, true, false, not, All, Option, Some, None, option_map, Result, Ok, Err, refl, sym, ap, ◌∙◌, arith, nat_lt, inr}
+use Rattle.std.specs.List.{AllByRecursion}
 use Rattle.std.proofs.lemmas.Bool.Decides.{nat_tests}
 use Rattle.std.proofs.lemmas.List.Elements.{All-from_get_or}
 use Rattle.ao_base.specs.Outside.{Side, WasWritten, IsAtEnd}
@@ -37,18 +38,27 @@ use Rattle.law_headline.proofs.LawfulRuns.{lawful}
 use Rattle.law_headline.proofs.ReportEnds.{last_line}
 use Rattle.law_headline.proofs.StormFits.{storm_fits, storm_tables, events_fit as events_fit_storm}
 use Rattle.law_headline.proofs.Through.{storm_through}
-use Rattle.law_link.specs.Laws.{TablesFit}
+use Rattle.law_link.specs.Laws.{EventFits, SetupFits, TablesFit}
+use Rattle.law_seen.proofs.Relied.{acknowledges_received, is_reliable, summary_says_seen}
 use Rattle.law_node.proofs.Runs.{each_alone}
 use Rattle.book_base.specs.Hexadecimal.{IsByte}
 use Rattle.law_pcap.specs.LineForms.{line_form}
 use Rattle.law_pcap.proofs.Judged.{answers_alike}
 use Rattle.law_pcap.proofs.Records.{line_form_shows}
-use Rattle.ao_run.specs.Delivers.{CommandsDeliver, Delivers, DeliversPackets, DeliversStorm, Keyed, LinkFile, MessageFile, NodeFile, Says, TimedFile, named_tables}
+use Rattle.ao_run.specs.Delivers.{CommandsDeliver, Delivers, DeliversPackets, DeliversStorm, HoldsAsSeen, Keyed, LinkFile, MessageFile, NodeFile, Says, TimedFile, named_tables}
 use Rattle.ao_run.specs.Obeys.{Obeys, Sides, asks_input, asks_keys, Along, text_of}
 use Rattle.ao_run.specs.Gathered.{is_ready}
 use Rattle.ao_run.proofs.AnswerLaws.{keyed}
 use Rattle.ao_run.proofs.CommandLaws.{named_ready}
 use Rattle.law_headline.proofs.TimedFits.{expanded_fit, timed_fits}
+
+-- what holds of what is seen of a run of events that fit
+seen_of : (setup : Setup) → SetupFits setup → (events : List Event) → AllByRecursion EventFits events → HoldsAsSeen setup events
+seen_of setup fits events all = record {
+  reliable = is_reliable setup fits events all;
+  acknowledged = acknowledges_received setup fits events all;
+  summary = summary_says_seen setup fits events all;
+}
 
 -- the answer to words, by what they name
 abbrev answer : List (List ℕ) → List ℕ → List ℕ → Answer
@@ -129,11 +139,13 @@ module _ (words : List (List ℕ)) (k i : List ℕ) (b n : Sides) (s : ℕ) (x :
   known = x.known (omega (arith, small))
 
   -- of a run whose report is the answer
-  delivers : (setup : Setup) (events : List Event) → answer words k i ≡ reported setup events → TablesFit setup → Lawful setup events → GetsThrough setup events → Delivers setup events b.out n.out s
-  delivers setup events is tables law through = record {
+  delivers : (setup : Setup) (events : List Event) → answer words k i ≡ reported setup events → TablesFit setup → HoldsAsSeen setup events → Lawful setup events → GetsThrough setup events →
+      Delivers setup events b.out n.out s
+  delivers setup events is tables seen law through = record {
     written = rw is at (x.whole small);
     counted = counted s (forgeries (run setup events).history) (known ∙ ap (λ (y : Answer). y.status) is);
     last_line = last_line setup events;
+    as_seen = seen;
     tables = tables;
     lawful = law;
     gets_through = through;
@@ -154,6 +166,7 @@ module _ (words : List (List ℕ)) (k i : List ℕ) (b n : Sides) (s : ℕ) (x :
         plain_run =
             delivers setup events (is ∙ within long (reported setup events) 4 s too_many_events small (omega arith) known_is)
             (keyed_tables k tables script.a script.b key_file)
+            (seen_of setup (timed_fits k i tables script key_file read) events (expanded_fit setup i script read))
             (lawful setup (timed_fits k i tables script key_file read) events (expanded_fit setup i script read))
             (timed_through k i tables script key_file read few);
       }
@@ -170,6 +183,7 @@ module _ (words : List (List ℕ)) (k i : List ℕ) (b n : Sides) (s : ℕ) (x :
         counted = both s (forgeries (run setup script.events).history) (bgp_faults (run setup script.events)) (known ∙ ap (λ (y : Answer). y.status) is);
         told = tells_messages setup script.events;
         in_order = speaks_in_order setup script.events fits all;
+        as_seen = seen_of setup fits script.events all;
         tables = keyed_tables k tables script.a script.b key_file;
         lawful = lawful setup fits script.events all;
         gets_through = keyed_through k i tables script key_file read;
@@ -180,6 +194,7 @@ module _ (words : List (List ℕ)) (k i : List ℕ) (b n : Sides) (s : ℕ) (x :
   storm_delivers seed count low is = record {
     written = rw is at (x.whole small);
     counted = counted s (forgeries (run storm_setup (storm_events seed count)).history) (known ∙ ap (λ (y : Answer). y.status) is);
+    as_seen = seen_of storm_setup storm_fits (storm_events seed count) (events_fit_storm seed count);
     tables = storm_tables;
     lawful = lawful storm_setup storm_fits (storm_events seed count) (events_fit_storm seed count);
     gets_through = storm_through seed count low;
@@ -258,6 +273,7 @@ linked_file k i b n s x small =
     (input_ended ws command.Link k i b n s x small named_link refl) is
     (λ script found made.
     delivers ws k i b n s x small (setup_of (named_tables script) script.a script.b) script.events made (shared_tables_fit script)
+    (seen_of (setup_of (named_tables script) script.a script.b) (shared_fits i script found) script.events (events_fit keys_from.LinkFile i script found))
     (lawful (setup_of (named_tables script) script.a script.b) (shared_fits i script found) script.events (events_fit keys_from.LinkFile i script found)) (shared_through i script found))
 
 linked_keys_file : (name k i : List ℕ) (b n : Sides) (s : ℕ) → Obeys (codes "link" ∷ name ∷ []) k i b n s → s < 2 →
@@ -268,6 +284,7 @@ linked_keys_file name k i b n s x small =
     keyed_file ws command.LinkKeys k i b n s x small (named_link_keys name) (script_of keys_from.KeyFile) linked (λ tables script. LinkFile tables script b n s) refl refl o refl
     (λ script found made.
     delivers ws k i b n s x small (setup_of o.tables script.a script.b) script.events made (keyed_tables k o.tables script.a script.b o.is_key_file)
+    (seen_of (setup_of o.tables script.a script.b) (keyed_fits k i o.tables script o.is_key_file found) script.events (events_fit keys_from.KeyFile i script found))
     (lawful (setup_of o.tables script.a script.b) (keyed_fits k i o.tables script o.is_key_file found) script.events (events_fit keys_from.KeyFile i script found))
     (keyed_through k i o.tables script o.is_key_file found))
 

@@ -34,6 +34,8 @@ use Rattle.cmd_bgp.specs.Tellings.{SpeaksInOrder, TellsMessages}
 use Rattle.law_headline.specs.GetsThrough.{GetsThrough}
 use Rattle.law_headline.specs.Lawful.{Lawful}
 use Rattle.law_link.specs.Laws.{TablesFit}
+use Rattle.law_seen.specs.Seen.{AcknowledgesReceived, ReliableUnlessForged}
+use Rattle.law_seen.specs.Summaries.{SummarySaysSeen}
 use Rattle.law_pcap.specs.LineForms.{line_form}
 use Rattle.ao_run.specs.Obeys.{Sides}
 
@@ -54,6 +56,17 @@ pub record Says {S : Type 0} (script_in : List ℕ → Result S TextFault) (inpu
   pub is_script : script_in input ≡ Ok script
   pub holds : Holds script
 
+-- what holds of a run of these events, said of what is seen of it alone: the events, what came of
+-- each, and the lines of its sessions (own)
+pub record HoldsAsSeen (setup : Setup) (events : List Event) : Type 0 where
+  -- where no forgery is counted: what a session got is a prefix of what its peer gave, one that is
+  -- nobody's peer got nothing, and the end is told only where all that the peer gave was got
+  pub reliable : ReliableUnlessForged setup events
+  -- what a session acknowledges was received
+  pub acknowledged : AcknowledgesReceived setup events
+  -- the lines of the sessions say what is seen of them
+  pub summary : SummarySaysSeen setup events
+
 -- what holds of the run of these events, with the status of the call (own)
 pub record Delivers (setup : Setup) (events : List Event) (out_before out_now : Side) (status : ℕ)
     : Type 0 where
@@ -63,6 +76,8 @@ pub record Delivers (setup : Setup) (events : List Event) (out_before out_now : 
   pub counted : (status ≡ 0) ↔ (forgeries (run setup events).history ≡ 0)
   -- the last line of the report says how many are
   pub last_line : (front : List ℕ) × (report setup events ≡ front ++ counts_line (run setup events))
+  -- prefix, nobody's peer, end of stream, and acknowledgement, by what is seen
+  pub as_seen : HoldsAsSeen setup events
   -- the tables with which its ends begin have no overlap (RFC 7210, section 3)
   pub tables : TablesFit setup
   -- prefix, what was received and made, one partner, end of stream, rollover, no gap, origin, reset
@@ -91,6 +106,8 @@ pub record DeliversMessages (setup : Setup) (events : List Event) (out_before ou
   pub told : TellsMessages setup events
   -- where no forgery is counted they begin the messages in the bytes given to its partner
   pub in_order : SpeaksInOrder (run setup events)
+  -- prefix, nobody's peer, end of stream, and acknowledgement, by what is seen
+  pub as_seen : HoldsAsSeen setup events
   -- the tables with which its ends begin have no overlap (RFC 7210, section 3)
   pub tables : TablesFit setup
   -- prefix, what was received and made, one partner, end of stream, rollover, no gap, origin, reset
@@ -107,6 +124,7 @@ pub record DeliversStorm (events : List Event) (out_before out_now : Side) (stat
   -- the status is 0 exactly where no forgery is counted
   pub counted : (status ≡ 0) ↔ (forgeries (run storm_setup events).history ≡ 0)
   -- as of a link's run
+  pub as_seen : HoldsAsSeen storm_setup events
   pub tables : TablesFit storm_setup
   pub lawful : Lawful storm_setup events
   pub gets_through : GetsThrough storm_setup events
