@@ -37,7 +37,7 @@ found_is (Some e) n known rs seeks = seeks
 kept_is : (q : Request) (d : Drawer) (shown : List CapturePacket) → q.form ≡ Picture → HasDrawn q d shown → picture_between d.search.found d.kept.items ≡ drawn_text q shown
 kept_is q d shown form h =
     let kept : d.kept.items ≡ rungs_of_session q.number h.rungs = h.follows.kept ∙ ap (λ f. kept_in f q.number h.rungs) form in
-    let at : session_at d.search.number (sessions_drawn h.rungs) ≡ d.search.found = found_is d.search.found d.search.number d.search.known.items h.rungs h.follows.seeks in
+    let at : session_at d.search.number (sessions_drawn h.rungs) ≡ d.search.found = found_is d.search.found d.search.number d.search.known h.rungs h.follows.seeks in
     let found : d.search.found ≡ session_at q.number (sessions_drawn h.rungs) = sym at ∙ ap (λ (n : ℕ). session_at n (sessions_drawn h.rungs)) h.follows.number in
     ap (λ o. picture_between o d.kept.items) found
     ∙ (ap (λ xs. picture_between (session_at q.number (sessions_drawn h.rungs)) xs) kept

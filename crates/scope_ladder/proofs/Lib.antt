@@ -1,4 +1,5 @@
 pub mod Drawn
 pub mod Kept
+pub mod KnownLaws
 pub mod Searching
 pub mod Walk

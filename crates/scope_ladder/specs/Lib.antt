@@ -1,3 +1,4 @@
 pub mod Drawing
+pub mod Known
 pub mod Searches
 pub mod Writing

@@ -22,7 +22,7 @@ SeeksBy None number known rs =
 
 -- the search is behind these segments (own)
 abbrev pub Seeks : Search → List SessionRung → Type 0
-Seeks s rs = SeeksBy s.found s.number s.known.items rs
+Seeks s rs = SeeksBy s.found s.number s.known rs
 
 -- what is drawn of a segment (own)
 abbrev pub shown_text : Shown → SessionRung → List ℕ

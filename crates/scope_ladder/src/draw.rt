@@ -59,7 +59,7 @@ pub(crate) fn told(search: &Search) -> Result<(), LadderHalt>
 {
     match search.found {
         Some(_) => Ok(()),
-        None => Err(LadderHalt::NoSession(search.known.len() as u64)),
+        None => Err(LadderHalt::NoSession(search.known.len())),
     }
 }
 

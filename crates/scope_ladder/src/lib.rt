@@ -5,6 +5,7 @@
 
 mod draw;
 mod drawer;
+mod known;
 mod picture;
 mod search;
 

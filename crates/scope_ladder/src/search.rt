@@ -1,11 +1,11 @@
 //! Which sockets the session has that is drawn.
 ghost use Rattle.std.specs.Prelude.{◌≡◌, ◌∷◌, ◌++◌, [], List, IfOk, OnOk};
-ghost use Rattle.std.specs.List.{list_any};
 ghost use Rattle.book_draw_session.specs.Ladders.{session_ladder};
 ghost use Rattle.book_draw_session.specs.Rungs.{ends_of, is_between, rungs_of_session, same_ends};
 ghost use Rattle.book_draw_session.specs.declared.rung.SessionRung.{SessionRung as Segment};
 ghost use Rattle.scope_ladder.specs.Searches.{Seeks, shown_rungs, shown_text};
 
+use crate::known::KnownEnds;
 use book_draw_session::{SessionEnds, SessionRung};
 use std::alloc::{AllocError, Global};
 
@@ -14,7 +14,7 @@ use std::alloc::{AllocError, Global};
 #[derive(Drop)]
 pub(crate) struct Search {
     pub(crate) number: u64,
-    pub(crate) known: Vec<SessionEnds>,
+    pub(crate) known: KnownEnds,
     pub(crate) found: Option<SessionEnds>,
 }
 
@@ -45,12 +45,6 @@ fn is_between(ends: &SessionEnds, rung: &SessionRung) -> bool
         || (rung.source == ends.right && rung.destination == ends.left)
 }
 
-fn is_known(known: &[SessionEnds], rung: &SessionRung) -> bool
-    ensures { result ≡ list_any (λ e. is_between e rung.now) known.now }
-{
-    known.iter().any(|ends| is_between(ends, rung))
-}
-
 impl Search {
     /// A search for the session of this number.
     pub(crate) fn new(alloc: Global, number: u64) -> Search
@@ -59,7 +53,7 @@ impl Search {
     {
         Search {
             number,
-            known: Vec::new(alloc),
+            known: KnownEnds::new(alloc),
             found: None,
         }
     }
@@ -73,12 +67,12 @@ impl Search {
         ensures rungs { (rs : List Segment) → Seeks self.old rs → self.old.found ≡ None
             → IfOk result (λ shown. rungs_of_session self.old.number (rs ++ rung.now ∷ []) ≡ rungs_of_session self.old.number rs ++ shown_rungs shown rung.now) }
     {
-        if is_known(self.known.as_slice(), rung) {
+        if self.known.has(rung) {
             return Ok(Shown::Nothing);
         }
         let ends = ends_of(rung);
         self.known.push(ends)?;
-        if self.known.len() as u64 == self.number {
+        if self.known.len() == self.number {
             self.found = Some(ends);
             return Ok(Shown::First(ends));
         }

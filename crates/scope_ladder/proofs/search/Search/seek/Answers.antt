@@ -3,63 +3,63 @@ use Rattle.std.proofs.lemmas.Bool.{eq-eqb, ne_eqb}
 use Rattle.scope_ladder.proofs.Searching.{as_none, first_seeks, first_rungs, first_text, from_none, known_seeks, known_rungs, known_text, other_seeks, other_rungs, other_text}
 use Rattle.scope_ladder.proofs.search.Search.seek.Goals as goal
 
-pub returns-then-is_known-clause-seeks : goal.returns-then-is_known-clause-seeks
-returns-then-is_known-clause-seeks c rs seeks none =
-    let any = sym (rw c.as_slice.ensures.value at c.is_known.ensures) ∙ c.if-is_known.true in
+pub returns-then-has-clause-seeks : goal.returns-then-has-clause-seeks
+returns-then-has-clause-seeks c rs seeks none =
+    let any = sym c.has.ensures ∙ c.if-has.true in
     let s = c.args.self.now in
-    from_none s.found s.number s.known.items (rs ++ c.args.rung.now ∷ []) none (known_seeks s.number s.known.items rs c.args.rung.now (as_none s.found s.number s.known.items rs none seeks) any)
+    from_none s.found s.number s.known (rs ++ c.args.rung.now ∷ []) none (known_seeks s.number s.known rs c.args.rung.now (as_none s.found s.number s.known rs none seeks) any)
 
-pub returns-then-is_known-clause-shown : goal.returns-then-is_known-clause-shown
-returns-then-is_known-clause-shown c rs seeks none =
-    let any = sym (rw c.as_slice.ensures.value at c.is_known.ensures) ∙ c.if-is_known.true in
+pub returns-then-has-clause-shown : goal.returns-then-has-clause-shown
+returns-then-has-clause-shown c rs seeks none =
+    let any = sym c.has.ensures ∙ c.if-has.true in
     let s = c.args.self.now in
-    known_text s.number s.known.items rs c.args.rung.now (as_none s.found s.number s.known.items rs none seeks) any
+    known_text s.number s.known rs c.args.rung.now (as_none s.found s.number s.known rs none seeks) any
 
-pub returns-then-is_known-clause-rungs : goal.returns-then-is_known-clause-rungs
-returns-then-is_known-clause-rungs c rs seeks none =
-    let any = sym (rw c.as_slice.ensures.value at c.is_known.ensures) ∙ c.if-is_known.true in
+pub returns-then-has-clause-rungs : goal.returns-then-has-clause-rungs
+returns-then-has-clause-rungs c rs seeks none =
+    let any = sym c.has.ensures ∙ c.if-has.true in
     let s = c.args.self.now in
-    known_rungs s.number s.known.items rs c.args.rung.now (as_none s.found s.number s.known.items rs none seeks) any
+    known_rungs s.number s.known rs c.args.rung.now (as_none s.found s.number s.known rs none seeks) any
 
 pub returns-then-len-self-clause-seeks : goal.returns-then-len-self-clause-seeks
 returns-then-len-self-clause-seeks c rs seeks none =
-    let any = sym (rw c.as_slice.ensures.value at c.is_known.ensures) ∙ c.if-is_known.false in
+    let any = sym c.has.ensures ∙ c.if-has.false in
     let s = c.args.self.now in
-    let pushed = rw c.ends_of-ends.ensures at c.in_ok-push.ensures.items in
-    rw c.ends_of-ends.ensures (first_seeks s.number s.known.items rs c.args.rung.now (as_none s.found s.number s.known.items rs none seeks) c.push.new.self.items any pushed (eq-eqb (length c.push.new.self.items) c.args.self.now.number (sym c.push.new.self.ok.0 ∙ (sym c.len.ensures ∙ c.if-len-self.true))))
+    let pushed = rw c.ends_of-ends.ensures at c.in_ok-push.ensures in
+    rw c.ends_of-ends.ensures (first_seeks s.number s.known rs c.args.rung.now (as_none s.found s.number s.known rs none seeks) c.push.new.self any pushed (eq-eqb (length c.push.new.self) c.args.self.now.number (sym c.len.ensures ∙ c.if-len-self.true)))
 
 pub returns-then-len-self-clause-shown : goal.returns-then-len-self-clause-shown
 returns-then-len-self-clause-shown c rs seeks none =
-    let any = sym (rw c.as_slice.ensures.value at c.is_known.ensures) ∙ c.if-is_known.false in
+    let any = sym c.has.ensures ∙ c.if-has.false in
     let s = c.args.self.now in
-    let pushed = rw c.ends_of-ends.ensures at c.in_ok-push.ensures.items in
-    rw c.ends_of-ends.ensures (first_text s.number s.known.items rs c.args.rung.now (as_none s.found s.number s.known.items rs none seeks) c.push.new.self.items any pushed (eq-eqb (length c.push.new.self.items) c.args.self.now.number (sym c.push.new.self.ok.0 ∙ (sym c.len.ensures ∙ c.if-len-self.true))))
+    let pushed = rw c.ends_of-ends.ensures at c.in_ok-push.ensures in
+    rw c.ends_of-ends.ensures (first_text s.number s.known rs c.args.rung.now (as_none s.found s.number s.known rs none seeks) c.push.new.self any pushed (eq-eqb (length c.push.new.self) c.args.self.now.number (sym c.len.ensures ∙ c.if-len-self.true)))
 
 pub returns-then-len-self-clause-rungs : goal.returns-then-len-self-clause-rungs
 returns-then-len-self-clause-rungs c rs seeks none =
-    let any = sym (rw c.as_slice.ensures.value at c.is_known.ensures) ∙ c.if-is_known.false in
+    let any = sym c.has.ensures ∙ c.if-has.false in
     let s = c.args.self.now in
-    let pushed = rw c.ends_of-ends.ensures at c.in_ok-push.ensures.items in
-    first_rungs s.number s.known.items rs c.args.rung.now (as_none s.found s.number s.known.items rs none seeks) c.push.new.self.items any pushed (eq-eqb (length c.push.new.self.items) c.args.self.now.number (sym c.push.new.self.ok.0 ∙ (sym c.len.ensures ∙ c.if-len-self.true)))
+    let pushed = rw c.ends_of-ends.ensures at c.in_ok-push.ensures in
+    first_rungs s.number s.known rs c.args.rung.now (as_none s.found s.number s.known rs none seeks) c.push.new.self any pushed (eq-eqb (length c.push.new.self) c.args.self.now.number (sym c.len.ensures ∙ c.if-len-self.true))
 
 pub returns-clause-seeks : goal.returns-clause-seeks
 returns-clause-seeks c rs seeks none =
-    let any = sym (rw c.as_slice.ensures.value at c.is_known.ensures) ∙ c.if-is_known.false in
+    let any = sym c.has.ensures ∙ c.if-has.false in
     let s = c.args.self.now in
-    let pushed = rw c.ends_of-ends.ensures at c.in_ok-push.ensures.items in
-    from_none s.found s.number c.push.new.self.items (rs ++ c.args.rung.now ∷ []) none
-    (other_seeks s.number s.known.items rs c.args.rung.now (as_none s.found s.number s.known.items rs none seeks) c.push.new.self.items any pushed (ne_eqb (length c.push.new.self.items) c.args.self.now.number (λ same. c.if-len-self.false (c.len.ensures ∙ (c.push.new.self.ok.0 ∙ same)))))
+    let pushed = rw c.ends_of-ends.ensures at c.in_ok-push.ensures in
+    from_none s.found s.number c.push.new.self (rs ++ c.args.rung.now ∷ []) none
+    (other_seeks s.number s.known rs c.args.rung.now (as_none s.found s.number s.known rs none seeks) c.push.new.self any pushed (ne_eqb (length c.push.new.self) c.args.self.now.number (λ same. c.if-len-self.false (c.len.ensures ∙ same))))
 
 pub returns-clause-shown : goal.returns-clause-shown
 returns-clause-shown c rs seeks none =
-    let any = sym (rw c.as_slice.ensures.value at c.is_known.ensures) ∙ c.if-is_known.false in
+    let any = sym c.has.ensures ∙ c.if-has.false in
     let s = c.args.self.now in
-    let pushed = rw c.ends_of-ends.ensures at c.in_ok-push.ensures.items in
-    other_text s.number s.known.items rs c.args.rung.now (as_none s.found s.number s.known.items rs none seeks) c.push.new.self.items any pushed (ne_eqb (length c.push.new.self.items) c.args.self.now.number (λ same. c.if-len-self.false (c.len.ensures ∙ (c.push.new.self.ok.0 ∙ same))))
+    let pushed = rw c.ends_of-ends.ensures at c.in_ok-push.ensures in
+    other_text s.number s.known rs c.args.rung.now (as_none s.found s.number s.known rs none seeks) c.push.new.self any pushed (ne_eqb (length c.push.new.self) c.args.self.now.number (λ same. c.if-len-self.false (c.len.ensures ∙ same)))
 
 pub returns-clause-rungs : goal.returns-clause-rungs
 returns-clause-rungs c rs seeks none =
-    let any = sym (rw c.as_slice.ensures.value at c.is_known.ensures) ∙ c.if-is_known.false in
+    let any = sym c.has.ensures ∙ c.if-has.false in
     let s = c.args.self.now in
-    let pushed = rw c.ends_of-ends.ensures at c.in_ok-push.ensures.items in
-    other_rungs s.number s.known.items rs c.args.rung.now (as_none s.found s.number s.known.items rs none seeks) c.push.new.self.items any pushed (ne_eqb (length c.push.new.self.items) c.args.self.now.number (λ same. c.if-len-self.false (c.len.ensures ∙ (c.push.new.self.ok.0 ∙ same))))
+    let pushed = rw c.ends_of-ends.ensures at c.in_ok-push.ensures in
+    other_rungs s.number s.known rs c.args.rung.now (as_none s.found s.number s.known rs none seeks) c.push.new.self any pushed (ne_eqb (length c.push.new.self) c.args.self.now.number (λ same. c.if-len-self.false (c.len.ensures ∙ same)))
