@@ -10,7 +10,7 @@ use Rattle.book_segments.specs.declared.fault.DatagramFault.{DatagramFault}
 use Rattle.book_segments.specs.Sockets.{same_socket}
 use Rattle.book_segments.specs.Options.{AoFound, Absent, One, Two, WithMd5, find_ao}
 use Rattle.book_segments.specs.Segments.{Segment, Reading, Read, Bad, reading, has, SYN, ACK}
-use Rattle.book_segments.specs.Segments.{FIN, RST, bit_of, segment_length}
+use Rattle.book_segments.specs.Segments.{FIN, RST, segment_length}
 use Rattle.book_endpoint.specs.States.{number_limit}
 use Rattle.book_endpoint.specs.Verdicts.{Finding}
 use Rattle.book_cmd_check.specs.Captures.{Connection, Stored, connection_between}
@@ -331,18 +331,18 @@ stored_by number time found = judged_of (captured_by number time found)
 abbrev pub stored_of_packet : CapturePacket → Result Stored PassedOver
 stored_of_packet p = stored_by p.number p.frame.time (frame_datagram p.frame)
 
--- how many segments without a header checksum this is: one, or none (own)
-abbrev pub unset_in : Result Stored PassedOver → ℕ
-unset_in (Err why) = 0
-unset_in (Ok s) = bit_of (is_unset_segment s.bytes)
+-- what a packet has is a segment without a header checksum (own)
+abbrev pub has_unset : Result Stored PassedOver → Bool
+has_unset (Err why) = false
+has_unset (Ok s) = is_unset_segment s.bytes
 
--- a table that counts so many more segments without a header checksum (own)
-abbrev pub with_unset : ℕ → SessionTable → SessionTable
-with_unset n t = record t { unset = n + t.unset }
+-- a table that counts one more segment without a header checksum, if there is one (own)
+abbrev pub with_unset : (more : Bool) → SessionTable → SessionTable
+with_unset more t = record t { unset = if more then t.unset + 1 else t.unset }
 
 -- what a packet has is counted, if it is a segment without a header checksum (own)
 abbrev pub and_unset : Result Stored PassedOver → SessionTable → SessionTable
-and_unset captured t = with_unset (unset_in captured) t
+and_unset captured t = with_unset (has_unset captured) t
 
 -- what is judged of a packet, in front of others (own)
 abbrev pub stored_before : Result Stored PassedOver → List Stored → List Stored

@@ -6,7 +6,7 @@ use Rattle.book_captures.specs.declared.reasons.Skipped.{Skipped}
 use Rattle.book_captures.specs.Frames.{Datagram}
 use Rattle.book_captures.specs.Captures.{CapturePacket, frame_datagram}
 use Rattle.book_cmd_check.specs.Captures.{Stored}
-use Rattle.book_segments.specs.Segments.{Bad, Read, Reading, Segment, bit_of, reading}
+use Rattle.book_segments.specs.Segments.{Bad, Read, Reading, Segment, reading}
 use Rattle.book_sessions.specs.declared.outcome.PassedOver.{PassedOver}
 use Rattle.book_sessions.specs.declared.uses.KeyUse.{KeyUse}
 use Rattle.book_sessions.specs.declared.uses.SeenSegment.{SeenSegment}
@@ -102,7 +102,7 @@ stored_on (Err e) j k after before now s seen heard counted = tt
 pub seen_told : (after : Hearing) (stored : Stored) (d : Segment) (l : Listened) (told : HeardSegment) (s : SeenSegment) → Listens after told d l → s ≡ seen_segment stored d told.outcome told.pass → IsSeen stored d s l
 seen_told after stored d l told s h is = rw (h.outcome, is, h.pass) refl
 
-same_table : (t : SessionTable) → with_unset 0 t ≡ t
+same_table : (t : SessionTable) → with_unset false t ≡ t
 same_table t = refl
 
 unset_free : (bytes : List ℕ) → lacks_checksum bytes ≡ false → is_unset_segment bytes ≡ false
@@ -130,11 +130,11 @@ unfolding is_unset_segment
 unset_is bytes lacks = rw lacks refl
 
 mended_counts : (j : Judging) (k : Listening) (after : Hearing) (before now : SessionTable) (number time : ℕ) (bytes whole : List ℕ) → lacks_checksum bytes ≡ true → whole ≡ mended bytes
-    → CountsJudged j k after (with_unset (bit_of (is_segment (reading whole))) before) now (Ok (stored_at number time whole)) → CountsStored j k after before now (Ok (stored_at number time bytes))
+    → CountsJudged j k after (with_unset (is_segment (reading whole)) before) now (Ok (stored_at number time whole)) → CountsStored j k after before now (Ok (stored_at number time bytes))
 mended_counts j k after before now number time bytes whole lacks is counts = rw (unset_is bytes lacks) (rw is at counts)
 
 -- bytes whose header checksum was set, unless memory ran out
 pub mended_on : {E : Type 0} (result : Result (Unit {0}) E) (j : Judging) (k : Listening) (after : Hearing) (before now : SessionTable) (number time : ℕ) (bytes whole : List ℕ) → lacks_checksum bytes ≡ true → whole ≡ mended bytes
-    → OnOk result (CountsJudged j k after (with_unset (bit_of (is_segment (reading whole))) before) now (Ok (stored_at number time whole))) → OnOk result (CountsStored j k after before now (Ok (stored_at number time bytes)))
+    → OnOk result (CountsJudged j k after (with_unset (is_segment (reading whole)) before) now (Ok (stored_at number time whole))) → OnOk result (CountsStored j k after before now (Ok (stored_at number time bytes)))
 mended_on (Ok done) j k after before now number time bytes whole lacks is counts = mended_counts j k after before now number time bytes whole lacks is counts
 mended_on (Err e) j k after before now number time bytes whole lacks is counts = tt

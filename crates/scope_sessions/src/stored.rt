@@ -1,6 +1,6 @@
 //! A stored datagram, counted: with its header checksum, where that isn't set.
 ghost use Rattle.std.specs.Prelude.{◌≡◌, Ok, OnOk};
-ghost use Rattle.book_segments.specs.Segments.{bit_of, reading};
+ghost use Rattle.book_segments.specs.Segments.{reading};
 ghost use Rattle.book_sessions.specs.AsSent.{is_segment};
 ghost use Rattle.book_sessions.specs.Listening.{Listening};
 ghost use Rattle.book_sessions.specs.Sessions.{with_unset};
@@ -34,7 +34,7 @@ fn count_judged<L: Ledger>(
 
 // Counts bytes whose header checksum was set, if they are a segment, among those that had none.
 fn count_unset(index: &mut SessionIndex, bytes: &[u8]) -> Result<(), AllocError>
-    ensures { OnOk result (index.new ≡ with_unset (bit_of (is_segment (reading bytes.now))) index.old) }
+    ensures { OnOk result (index.new ≡ with_unset (is_segment (reading bytes.now)) index.old) }
 {
     if is_segment(bytes) {
         index.count_unset()
@@ -54,7 +54,7 @@ fn count_mended<L: Ledger>(
     bytes: &[u8],
 ) -> Result<(), AllocError>
     ensures counts { (k : Listening) → Knows listener.old k → OnOk result
-        (CountsJudged listener.old.judging k listener.new (with_unset (bit_of (is_segment (reading bytes.now))) index.old) index.new (Ok (stored_at packet time bytes.now))) }
+        (CountsJudged listener.old.judging k listener.new (with_unset (is_segment (reading bytes.now)) index.old) index.new (Ok (stored_at packet time bytes.now))) }
     ensures judging { listener.new.judging ≡ listener.old.judging }
 {
     count_unset(index, bytes)?;

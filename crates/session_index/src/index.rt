@@ -1,5 +1,5 @@
 //! A table of sessions, counted segment by segment.
-ghost use Rattle.std.specs.Prelude.{◌≡◌, ◌≤◌, IfOk, OnErr, OnOk, filter};
+ghost use Rattle.std.specs.Prelude.{◌≡◌, ◌≤◌, IfOk, OnErr, OnOk, filter, true};
 ghost use Rattle.book_sessions.specs.Sessions.{and_counted, and_segment, no_sessions, session_of, with_unset};
 ghost use Rattle.book_sessions.specs.SessionTexts.{is_of_session};
 ghost use Rattle.session_index.specs.Groups.{HaveOneSession};
@@ -130,7 +130,7 @@ impl SessionIndex {
     /// Counts a segment whose header checksum isn't set. After an error nothing has changed: it comes where
     /// 2^64 - 1 are counted.
     pub fn count_unset(&mut self) -> Result<(), AllocError>
-        ensures counted { OnOk result (self.new ≡ with_unset 1 self.old) }
+        ensures counted { OnOk result (self.new ≡ with_unset true self.old) }
         ensures unchanged { OnErr result (self.new ≡ self.old) }
     {
         self.unset = self.unset.checked_add(1).ok_or(AllocError)?;
