@@ -10,6 +10,7 @@ use Rattle.book_cmd_check.specs.declared.given.GivenIsns.{GivenIsns}
 use Rattle.book_scope.specs.PacketLines.{judged_bytes}
 use Rattle.book_sessions.specs.declared.outcome.SegmentOutcome.{SegmentOutcome}
 use Rattle.book_sessions.specs.declared.uses.SeenSegment.{SeenSegment}
+use Rattle.book_sessions.specs.AsSent.{mended}
 use Rattle.book_sessions.specs.Counts.{seen_before, segments_heard}
 use Rattle.book_sessions.specs.Laps.{Judging}
 use Rattle.book_sessions.specs.Listening.{Listened, Listening, listen, listening_behind}
@@ -38,9 +39,9 @@ stored_drawn : (j : Judging) (time : Option ℕ) (number : ℕ) (found : Result 
 stored_drawn j time number (Err why) l others rest is = is l
 stored_drawn j None number (Ok d) l others rest is = is l
 stored_drawn j (Some t) number (Ok d) l others rest is =
-    let s : Stored = record { number = number; time = t / 1000000000; bytes = judged_bytes d } in
-    let h = listen j l (t / 1000000000) (reading (judged_bytes d)) in
-    read_drawn s t h (reading (judged_bytes d)) (others h.listening) (segments_heard j h.listening rest) refl (is h.listening)
+    let s : Stored = record { number = number; time = t / 1000000000; bytes = mended (judged_bytes d) } in
+    let h = listen j l (t / 1000000000) (reading (mended (judged_bytes d))) in
+    read_drawn s t h (reading (mended (judged_bytes d))) (others h.listening) (segments_heard j h.listening rest) refl (is h.listening)
 
 from_heard : (j : Judging) (ps : List CapturePacket) (l : Listening) → map seen_of (session_rungs_from j l ps) ≡ segments_heard j l (all_stored ps)
 from_heard j [] l = refl

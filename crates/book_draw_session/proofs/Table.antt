@@ -13,6 +13,7 @@ use Rattle.book_captures.specs.Frames.{Datagram}
 use Rattle.book_captures.specs.Captures.{CapturePacket, frame_datagram}
 use Rattle.book_cmd_check.specs.declared.given.GivenIsns.{GivenIsns}
 use Rattle.book_scope.specs.PacketLines.{judged_bytes}
+use Rattle.book_sessions.specs.AsSent.{mended}
 use Rattle.book_sessions.specs.declared.outcome.PassedOver.{PassedOver}
 use Rattle.book_sessions.specs.declared.outcome.PassedOver.TheVariants as passed
 use Rattle.book_sessions.specs.declared.outcome.SegmentOutcome.{SegmentOutcome}
@@ -20,7 +21,7 @@ use Rattle.book_sessions.specs.declared.uses.KeyUse.{KeyUse}
 use Rattle.book_sessions.specs.declared.uses.SeenSegment.{SeenSegment}
 use Rattle.book_sessions.specs.Laps.{Judging}
 use Rattle.book_sessions.specs.Listening.{Listened, Listening, listen, listening_behind}
-use Rattle.book_sessions.specs.Sessions.{SessionTable, and_counted, and_segment, counted_by, no_sessions, seen_as, seen_by, session_of, sessions_from, sessions_of, signs_of, stored_by, with_use}
+use Rattle.book_sessions.specs.Sessions.{SessionTable, and_counted, and_segment, and_unset, captured_of_packet, counted_by, no_sessions, seen_as, seen_by, session_of, sessions_from, sessions_of, signs_of, stored_by, with_use}
 use Rattle.book_sessions.specs.SessionTexts.{is_of_session}
 use Rattle.book_draw_session.specs.declared.rung.SessionEnds.{SessionEnds}
 use Rattle.book_draw_session.specs.declared.rung.SessionRung.{SessionRung}
@@ -201,14 +202,14 @@ module _ (known : List SessionEnds) (uses : List KeyUse) (rs : List SessionRung)
             ∙ sym (count_used n k (signs_of (seen_of r) uses) (seen_of r) uses all)));
       }
 
-  fits_by : (p : Option ℕ) → place (ends_of r) known ≡ p → (passed_over : _) →
-      let now = and_segment (option_map (λ m. suc m) p) (seen_of r) (record { sessions = sessions; uses = uses; passed = passed_over }) in
+  fits_by : (p : Option ℕ) → place (ends_of r) known ≡ p → (passed_over : _) (unset : ℕ) →
+      let now = and_segment (option_map (λ m. suc m) p) (seen_of r) (record { sessions = sessions; uses = uses; passed = passed_over; unset = unset }) in
       Fits (and_session known r) now.sessions now.uses (rs ++ r ∷ [])
-  fits_by None is passed_over =
+  fits_by None is passed_over unset =
       let many = fits.many in
       fits_with (sessions + 1) (sessions + 1) (ap (λ m. m + 1) (sym many) ∙ (one_behind (length known) ∙ ap (λ o. suc (unwrap_or o (length known))) (sym is)))
       (many_more known r ∙ (ap (λ (o : Option ℕ). if is_some o then length known else length known + 1) is ∙ ap (λ m. m + 1) many))
-  fits_by (Some m) is passed_over =
+  fits_by (Some m) is passed_over unset =
       fits_with (suc m) sessions (ap (λ o. suc (unwrap_or o (length known))) (sym is))
       (many_more known r ∙ (ap (λ (o : Option ℕ). if is_some o then length known else length known + 1) is ∙ fits.many))
 
@@ -216,7 +217,7 @@ pub fits_more : (known : List SessionEnds) (t : SessionTable) (rs : List Session
     let now = and_counted (Ok (seen_of r)) t in Fits (and_session known r) now.sessions now.uses (rs ++ r ∷ [])
 fits_more known t rs fits r =
     let found : session_of (seen_of r) t.uses ≡ number_of (ends_of r) known = session_number (seen_of r) t.uses ∙ fits.numbers (ends_of r) in
-    rw found (fits_by known t.uses rs t.sessions fits r (place (ends_of r) known) refl t.passed)
+    rw found (fits_by known t.uses rs t.sessions fits r (place (ends_of r) known) refl t.passed t.unset)
 
 -- ---- all packets
 
@@ -257,14 +258,14 @@ module _ (j : Judging) where
   stored_fits time number (Err why) ps later l known rs t fits = later l known rs _ fits
   stored_fits None number (Ok d) ps later l known rs t fits = later l known rs _ fits
   stored_fits (Some s) number (Ok d) ps later l known rs t fits =
-      let h = listen j l (s / 1000000000) (reading (judged_bytes d)) in
-      let stored : Stored = record { number = number; time = s / 1000000000; bytes = judged_bytes d } in
-      read_fits stored s h (reading (judged_bytes d)) known rs t (session_rungs_from j h.listening ps) (λ now. sessions_from j h.listening now ps) refl (λ k xs u. later h.listening k xs u) fits
+      let h = listen j l (s / 1000000000) (reading (mended (judged_bytes d))) in
+      let stored : Stored = record { number = number; time = s / 1000000000; bytes = mended (judged_bytes d) } in
+      read_fits stored s h (reading (mended (judged_bytes d))) known rs t (session_rungs_from j h.listening ps) (λ now. sessions_from j h.listening now ps) refl (λ k xs u. later h.listening k xs u) fits
 
   from_fits : (ps : List CapturePacket) (l : Listening) (known : List SessionEnds) (rs : List SessionRung) (t : SessionTable) → Fits known t.sessions t.uses rs
       → FitsLater known rs (sessions_from j l t ps) (session_rungs_from j l ps)
   from_fits [] l known rs t fits = rw (append-nil rs) fits
-  from_fits (p ∷ ps) l known rs t fits = stored_fits p.frame.time p.number (frame_datagram p.frame) ps (λ k xs u now. from_fits ps k xs u now) l known rs t fits
+  from_fits (p ∷ ps) l known rs t fits = stored_fits p.frame.time p.number (frame_datagram p.frame) ps (λ k xs u now. from_fits ps k xs u now) l known rs (and_unset (captured_of_packet p) t) fits
 
 none_at : (n : ℕ) → session_at n [] ≡ None
 none_at zero = refl

@@ -15,7 +15,7 @@ use Rattle.book_sessions.specs.declared.uses.KeyUse.{KeyUse}
 use Rattle.book_sessions.specs.declared.uses.PassedCount.{PassedCount}
 use Rattle.book_sessions.specs.Laps.{Judging}
 use Rattle.book_sessions.specs.Listening.{Listened, Listening, heard_once, outcome_of, listen, listening_behind}
-use Rattle.book_sessions.specs.Sessions.{SessionTable, same_reason, seen_as, seen_by, same_outcome, is_use_of, session_of, used_again, with_use, signs_of, and_segment, with_passed, and_counted, stored_of_packet, all_stored, counted_by, sessions_from, no_sessions, sessions_of}
+use Rattle.book_sessions.specs.Sessions.{SessionTable, same_reason, seen_as, seen_by, same_outcome, is_use_of, session_of, used_again, with_use, signs_of, and_segment, with_passed, and_counted, and_unset, captured_of_packet, stored_of_packet, all_stored, counted_by, sessions_from, no_sessions, sessions_of}
 use Rattle.book_sessions.specs.Counts.{if_outcome, counted, said_once, said_times, outcome_times, like_times, like_counted, is_like, use_as_checked, all_counted, all_passed, seen_before, segments_seen, segments_heard}
 use Rattle.book_sessions.proofs.Sums.{sum_of_uses, sum_of_segments, kinds_counted}
 use Rattle.book_sessions.proofs.Hearing.{without_laps, seen_as_checked, heard_as_checked}
@@ -162,7 +162,7 @@ module _ (j : Judging) where
   from_all [] l t = omega arith
   from_all (p ∷ ps) l t =
       let size : 1 + length ps ≡ length (p ∷ ps) = omega arith in
-      step_all (stored_of_packet p) ps (λ known now. from_all ps known now) l t ∙ ap (λ n. all_of t + n) size
+      step_all (stored_of_packet p) ps (λ known now. from_all ps known now) l (and_unset (captured_of_packet p) t) ∙ ap (λ n. all_of t + n) size
 
 pub packets_counted : (j : Judging) (given : List GivenIsns) (packets : List CapturePacket) → all_counted (sessions_of j given packets).uses + all_passed (sessions_of j given packets).passed ≡ length packets
 unfolding sessions_of

@@ -10,7 +10,7 @@ use Rattle.book_sessions.specs.declared.uses.Signs.{Signs}
 use Rattle.book_sessions.specs.declared.uses.KeyUse.{KeyUse}
 use Rattle.book_sessions.specs.Laps.{Judging}
 use Rattle.book_sessions.specs.Listening.{Listening, listen, listening_behind}
-use Rattle.book_sessions.specs.Sessions.{SessionTable, seen_by, is_use_of, session_of, first_use, used_again, with_use, signs_of, and_segment, and_counted, stored_of_packet, stored_before, all_stored, counted_by, sessions_from, no_sessions, sessions_of}
+use Rattle.book_sessions.specs.Sessions.{SessionTable, seen_by, is_use_of, session_of, first_use, used_again, with_use, signs_of, and_segment, and_counted, and_unset, captured_of_packet, stored_of_packet, stored_before, all_stored, counted_by, sessions_from, no_sessions, sessions_of}
 use Rattle.book_sessions.specs.Counts.{seen_before, segments_heard}
 
 -- how many segments are counted of this kind
@@ -84,7 +84,7 @@ module _ (is_kind : KeyUse → Bool) (is_one : SeenSegment → Bool) (kind : IsK
 
     from_kind : (ps : List CapturePacket) (l : Listening) (t : SessionTable) → sum (sessions_from j l t ps).uses ≡ sum t.uses + sum_of_segments is_one (segments_heard j l (all_stored ps))
     from_kind [] l t = omega arith
-    from_kind (p ∷ ps) l t = step_kind (stored_of_packet p) ps (λ known now. from_kind ps known now) l t
+    from_kind (p ∷ ps) l t = step_kind (stored_of_packet p) ps (λ known now. from_kind ps known now) l (and_unset (captured_of_packet p) t)
 
 -- a table counts as many segments of a kind as are heard
 pub kinds_counted : (is_kind : KeyUse → Bool) (is_one : SeenSegment → Bool) → IsKind is_kind is_one → (j : Judging) (given : List GivenIsns) (packets : List CapturePacket) →

@@ -1,3 +1,4 @@
+pub mod AsSent
 pub mod Counts
 pub mod GivenLines
 pub mod Glimpses

@@ -84,13 +84,18 @@ sessions_lines uses (suc n) = sessions_lines uses n ++ lines_of_session uses (su
 abbrev pub passed_line : PassedCount → List ℕ
 passed_line c = line_text (codes "other" ∷ decimal c.packets ∷ passed_text c.why ∷ [])
 
--- the text of a table: the capture, why packets are no segments, each session, and each key of the
--- key file (own)
+-- the line of segments whose header checksum isn't set, if there are some (own)
+abbrev pub unset_line : ℕ → List ℕ
+unset_line zero = []
+unset_line (suc n) = line_text (codes "ip-checksum" ∷ decimal (suc n) ∷ [])
+
+-- the text of a table: the capture, why packets are no segments, how many segments have no header
+-- checksum, each session, and each key of the key file (own)
 unfoldable pub sessions_text : List Table → SessionTable → List ℕ
 sessions_text tables t =
     capture_line (all_counted t.uses) (all_passed t.passed) t.uses
-    ++ (flat_map passed_line t.passed ++ (sessions_lines t.uses t.sessions
-    ++ keys_lines (evidence_of t) tables))
+    ++ (flat_map passed_line t.passed ++ (unset_line t.unset ++ (sessions_lines t.uses t.sessions
+    ++ keys_lines (evidence_of t) tables)))
 
 -- a segment isn't verified, or a packet that is passed over may be one (own)
 unfoldable pub has_amiss : SessionTable → Bool

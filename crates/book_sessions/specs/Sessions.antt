@@ -31,6 +31,7 @@ use Rattle.book_sessions.specs.declared.uses.Signs.{Signs}
 use Rattle.book_sessions.specs.declared.uses.KeyUse.{KeyUse}
 use Rattle.book_sessions.specs.declared.uses.PassedCount.{PassedCount}
 use Rattle.book_sessions.specs.contracts.outcome.PassedOverPartialEq.TheImpl as passed_eq
+use Rattle.book_sessions.specs.AsSent.{is_unset_segment, mended, told_fault}
 use Rattle.book_sessions.specs.Laps.{Judging}
 use Rattle.book_sessions.specs.Listening.{Listened, Listening, listen, listening_behind}
 use Rattle.book_sessions.specs.OutcomeTexts.{outcome_text}
@@ -40,6 +41,7 @@ pub record SessionTable : Type 0 where
   pub sessions : ℕ
   pub uses : List KeyUse
   pub passed : List PassedCount
+  pub unset : ℕ  -- how many segments had no header checksum
 
 -- the ids of the one TCP-AO option (RFC 5925, section 2.2)
 abbrev pub ids_found : AoFound → Option KeyIds
@@ -94,7 +96,7 @@ seen_segment s d said pass = record {
 -- the segment that stored bytes are, by what was heard of it, or why they are passed over (own)
 abbrev pub seen_as : Stored → Listened → Reading → Result SegmentOutcome DatagramFault →
     Result SeenSegment PassedOver
-seen_as s l bytes (Err fault) = Err (passed.Faulty fault)
+seen_as s l bytes (Err fault) = Err (passed.Faulty (told_fault s.bytes fault))
 seen_as s l (Bad fault) (Ok said) = Err (passed.Faulty fault)
 seen_as s l (Read d) (Ok said) =
     Ok (seen_segment s d said (option_map (seen_pass d l.listening.held) l.pass))
@@ -274,11 +276,13 @@ and_segment None s t = record {
   sessions = t.sessions + 1;
   uses = with_use (t.sessions + 1) (signs_of s t.uses) s t.uses;
   passed = t.passed;
+  unset = t.unset;
 }
 and_segment (Some session) s t = record {
   sessions = t.sessions;
   uses = with_use session (signs_of s t.uses) s t.uses;
   passed = t.passed;
+  unset = t.unset;
 }
 
 -- packets are passed over for the same reason (own)
@@ -296,19 +300,49 @@ with_passed why (c ∷ cs) = if same_reason why c.why
 abbrev pub and_counted : Result SeenSegment PassedOver → SessionTable → SessionTable
 and_counted (Ok s) t = and_segment (session_of s t.uses) s t
 and_counted (Err why) t =
-    record { sessions = t.sessions; uses = t.uses; passed = with_passed why t.passed }
+    record t { passed = with_passed why t.passed }
 
--- what is judged of a packet seen at this time: its datagram at its second; or why it is passed
+-- what a packet has that was seen at this time: its datagram at its second; or why it is passed
 -- over (own)
-abbrev pub stored_by : ℕ → Option ℕ → Result Datagram Skipped → Result Stored PassedOver
-stored_by number time (Err why) = Err (passed.NoDatagram why)
-stored_by number None (Ok d) = Err passed.NoTime
-stored_by number (Some time) (Ok d) =
+abbrev pub captured_by : ℕ → Option ℕ → Result Datagram Skipped → Result Stored PassedOver
+captured_by number time (Err why) = Err (passed.NoDatagram why)
+captured_by number None (Ok d) = Err passed.NoTime
+captured_by number (Some time) (Ok d) =
     Ok (record { number = number; time = time / 1000000000; bytes = judged_bytes d })
+
+-- what a packet has, or why it is passed over (own)
+abbrev pub captured_of_packet : CapturePacket → Result Stored PassedOver
+captured_of_packet p = captured_by p.number p.frame.time (frame_datagram p.frame)
+
+-- a stored datagram with its header checksum, where that isn't set (own)
+abbrev pub mended_of : Stored → Stored
+mended_of s = record s { bytes = mended s.bytes }
+
+-- what is judged of what a packet has (own)
+abbrev pub judged_of : Result Stored PassedOver → Result Stored PassedOver
+judged_of (Err why) = Err why
+judged_of (Ok s) = Ok (mended_of s)
+
+-- what is judged of a packet seen at this time, or why it is passed over (own)
+abbrev pub stored_by : ℕ → Option ℕ → Result Datagram Skipped → Result Stored PassedOver
+stored_by number time found = judged_of (captured_by number time found)
 
 -- what is judged of a packet, or why it is passed over (own)
 abbrev pub stored_of_packet : CapturePacket → Result Stored PassedOver
 stored_of_packet p = stored_by p.number p.frame.time (frame_datagram p.frame)
+
+-- what a packet has is a segment without a header checksum (own)
+abbrev pub has_unset : Result Stored PassedOver → Bool
+has_unset (Err why) = false
+has_unset (Ok s) = is_unset_segment s.bytes
+
+-- a table that counts one more segment without a header checksum, if there is one (own)
+abbrev pub with_unset : (more : Bool) → SessionTable → SessionTable
+with_unset more t = record t { unset = if more then t.unset + 1 else t.unset }
+
+-- what a packet has is counted, if it is a segment without a header checksum (own)
+abbrev pub and_unset : Result Stored PassedOver → SessionTable → SessionTable
+and_unset captured t = with_unset (has_unset captured) t
 
 -- what is judged of a packet, in front of others (own)
 abbrev pub stored_before : Result Stored PassedOver → List Stored → List Stored
@@ -320,6 +354,11 @@ abbrev pub all_stored : List CapturePacket → List Stored
 all_stored [] = []
 all_stored (p ∷ ps) = stored_before (stored_of_packet p) (all_stored ps)
 
+-- what packets have, as it was captured (own)
+abbrev pub all_captured : List CapturePacket → List Stored
+all_captured [] = []
+all_captured (p ∷ ps) = stored_before (captured_of_packet p) (all_captured ps)
+
 -- a packet of which this is judged, counted, and then others behind what was heard with it (own)
 abbrev pub counted_by : Judging → Listening → SessionTable → Result Stored PassedOver →
     (Listening → SessionTable → SessionTable) → SessionTable
@@ -330,12 +369,13 @@ counted_by j l t (Ok s) others = let h = listen j l s.time (reading s.bytes) in
 -- these packets, counted behind others (own)
 abbrev pub sessions_from : Judging → Listening → SessionTable → List CapturePacket → SessionTable
 sessions_from j l t [] = t
-sessions_from j l t (p ∷ ps) = counted_by j l t (stored_of_packet p)
+sessions_from j l t (p ∷ ps) =
+    counted_by j l (and_unset (captured_of_packet p) t) (stored_of_packet p)
     (λ known now. sessions_from j known now ps)
 
 -- a table that counts nothing (own)
 abbrev pub no_sessions : SessionTable
-no_sessions = record { sessions = 0; uses = []; passed = [] }
+no_sessions = record { sessions = 0; uses = []; passed = []; unset = 0 }
 
 -- the sessions of these packets, judged so, behind handshakes with the given initial sequence
 -- numbers (own)

@@ -53,13 +53,14 @@ last_json [] = json_null
 last_json (u ∷ us) = time_json (latest_seen u.last us)
 
 -- the packets of a capture: how many are segments, from when to when these were seen, how many are
--- none, and why (own)
+-- none, and why, and how many segments have no header checksum (own)
 unfoldable pub packets_json : SessionTable → List ℕ
 packets_json t = json_object (json_member (codes "segments") (decimal (all_counted t.uses))
     ∷ json_member (codes "first") (first_json t.uses)
     ∷ json_member (codes "last") (last_json t.uses)
     ∷ json_member (codes "other") (decimal (all_passed t.passed))
-    ∷ json_member (codes "reasons") (json_array (map passed_json t.passed)) ∷ [])
+    ∷ json_member (codes "reasons") (json_array (map passed_json t.passed))
+    ∷ json_member (codes "ip_checksum") (decimal t.unset) ∷ [])
 
 -- an end of a session (own)
 unfoldable pub end_json : Socket → List ℕ

@@ -10,7 +10,7 @@ use Rattle.book_cmd_check.specs.Connections.{connections_after}
 use Rattle.book_cmd_check.specs.Handshakes.{given_after}
 use Rattle.book_scope_plan.specs.AdminNames.{KeyFile}
 use Rattle.book_sessions.specs.declared.outcome.PassedOver.{PassedOver}
-use Rattle.book_sessions.specs.Sessions.{all_stored, stored_before, stored_of_packet}
+use Rattle.book_sessions.specs.Sessions.{all_stored, captured_of_packet, stored_before, stored_of_packet}
 use Rattle.book_why_texts.specs.Answers.{WhyAsked, answer_behind, behind_stored, has_number, no_packet_line, packet_asked, packets_before, passes_behind, said_behind, why_passes, why_text}
 
 chosen : {X : Type 0} → (b : Bool) (x y : X) → b ≡ true → (if b then x else y) ≡ x
@@ -49,7 +49,7 @@ missing_from n (q ∷ qs) free =
     other (has_number n q) (Some q) (find (has_number n) qs) (head_of n q qs free) ∙ missing_from n qs (tail_of n q qs free)
 
 pub text_told : (keys : KeyFile) (asked : WhyAsked) (before after : List CapturePacket) (p : CapturePacket) → NoneHas asked.number before → has_number asked.number p ≡ true
-    → why_text keys asked (before ++ p ∷ after) ≡ answer_behind keys (behind_stored keys.tables asked.given (all_stored before)) asked.with_key p.number (stored_of_packet p)
+    → why_text keys asked (before ++ p ∷ after) ≡ answer_behind keys (behind_stored keys.tables asked.given (all_stored before)) asked.with_key p.number (captured_of_packet p)
 unfolding why_text
 text_told keys asked before after p free is =
     rw (front_of asked.number before after p free is, found_at asked.number before after p free is) refl

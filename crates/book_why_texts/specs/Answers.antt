@@ -20,8 +20,10 @@ use Rattle.book_scope_texts.specs.Instants.{instant_text}
 use Rattle.book_scope_plan.specs.AdminNames.{KeyFile}
 use Rattle.book_sessions.specs.declared.outcome.PassedOver.{PassedOver}
 use Rattle.book_sessions.specs.declared.outcome.PassedOver.TheVariants as passed
+use Rattle.book_sessions.specs.AsSent.{lacks_checksum, mended, told_fault}
 use Rattle.book_sessions.specs.OutcomeTexts.{passed_text}
-use Rattle.book_sessions.specs.Sessions.{all_stored, stored_of_packet}
+use Rattle.book_sessions.specs.Sessions.{all_stored, captured_of_packet}
+use Rattle.book_sessions.specs.Sessions.{mended_of, stored_of_packet}
 use Rattle.book_why_texts.specs.Inquiries.{Inquiry, why_lines}
 use Rattle.book_why_texts.specs.OtherIsns.{other_isns, told_by_stored}
 use Rattle.book_why_texts.specs.Sights.{Sight, isns_at}
@@ -111,17 +113,23 @@ abbrev pub no_segment_line : (number : ℕ) → PassedOver → List ℕ
 no_segment_line n why =
     line_text (codes "packet" ∷ decimal n ∷ codes "other" ∷ passed_text why ∷ [])
 
--- the text for a stored datagram behind others (own)
-abbrev pub answer_to_reading : KeyFile → Behind → (with_key : Bool) → Stored → Reading → List ℕ
-answer_to_reading keys b with_key s (Bad fault) = no_segment_line s.number (passed.Faulty fault)
-answer_to_reading keys b with_key s (Read d) = segment_line s d ++ said_and_why keys b with_key s d
+-- the line of a header checksum that isn't set (own)
+abbrev pub unset_text : (unset : Bool) → List ℕ
+unset_text unset = if unset then codes "ip-checksum wrong" ++ 10 ∷ [] else []
 
--- the text for what is judged of a packet of this number behind others, or for why it is passed
--- over (own)
+-- the text for what a packet has behind others, which is judged with its header checksum (own)
+abbrev pub answer_to_reading : KeyFile → Behind → (with_key : Bool) → Stored → Reading → List ℕ
+answer_to_reading keys b with_key s (Bad fault) =
+    no_segment_line s.number (passed.Faulty (told_fault (mended s.bytes) fault))
+answer_to_reading keys b with_key s (Read d) = segment_line s d
+    ++ (unset_text (lacks_checksum s.bytes) ++ said_and_why keys b with_key (mended_of s) d)
+
+-- the text for what a packet of this number has behind others, or for why it is passed over (own)
 abbrev pub answer_behind :
     KeyFile → Behind → (with_key : Bool) → (number : ℕ) → Result Stored PassedOver → List ℕ
 answer_behind keys b with_key n (Err why) = no_segment_line n why
-answer_behind keys b with_key n (Ok s) = answer_to_reading keys b with_key s (reading s.bytes)
+answer_behind keys b with_key n (Ok s) =
+    answer_to_reading keys b with_key s (reading (mended s.bytes))
 
 -- the line where a capture of so many packets has none of this number (own)
 abbrev pub no_packet_line : (number count : ℕ) → List ℕ
@@ -132,7 +140,7 @@ no_packet_line n count =
 abbrev pub answer_at : KeyFile → Behind → (with_key : Bool) → Option CapturePacket → List ℕ → List ℕ
 answer_at keys b with_key None missing = missing
 answer_at keys b with_key (Some p) missing =
-    answer_behind keys b with_key p.number (stored_of_packet p)
+    answer_behind keys b with_key p.number (captured_of_packet p)
 
 -- a question: given initial sequence numbers, the packet of which number, and whether the traffic
 -- key is asked for (own)

@@ -13,7 +13,7 @@ ghost use Rattle.book_keys.specs.Choices.{accept_row, acceptable_as};
 ghost use Rattle.book_keys.specs.Rows.{Row, Table};
 ghost use Rattle.book_scope_plan.specs.AdminNames.{KeyFile};
 ghost use Rattle.book_segments.specs.Segments.{Segment, pair_reached};
-ghost use Rattle.book_sessions.specs.Sessions.{all_stored, stored_of_packet};
+ghost use Rattle.book_sessions.specs.Sessions.{all_stored, captured_of_packet, stored_of_packet};
 ghost use Rattle.book_why.specs.declared.change.IsnPair.{IsnPair};
 ghost use Rattle.book_why.specs.Judging.{ComesToItsMac, suspect_finding};
 ghost use Rattle.book_why.specs.Recipes.{Suspect, mac_made, recipe_of};
@@ -29,7 +29,7 @@ ghost use Rattle.book_why_texts.specs.Suspects.{Failing, Passing};
 pub fn answers_are_of_the_packet_asked_for()
     ensures text { (keys : KeyFile) (asked : WhyAsked) (before after : List CapturePacket) (p : CapturePacket)
         → All (λ q. has_number asked.number q ≡ false) before → has_number asked.number p ≡ true
-        → why_text keys asked (before ++ p ∷ after) ≡ answer_behind keys (behind_stored keys.tables asked.given (all_stored before)) asked.with_key p.number (stored_of_packet p) }
+        → why_text keys asked (before ++ p ∷ after) ≡ answer_behind keys (behind_stored keys.tables asked.given (all_stored before)) asked.with_key p.number (captured_of_packet p) }
     ensures passes { (tables : List Table) (asked : WhyAsked) (before after : List CapturePacket) (p : CapturePacket)
         → All (λ q. has_number asked.number q ≡ false) before → has_number asked.number p ≡ true
         → why_passes tables asked (before ++ p ∷ after) ≡ passes_behind tables (behind_stored tables asked.given (all_stored before)) (stored_of_packet p) }

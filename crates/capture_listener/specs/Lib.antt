@@ -1,3 +1,4 @@
+pub mod AsSent
 pub mod Begun
 pub mod Lines
 pub mod Listeners

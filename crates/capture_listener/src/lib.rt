@@ -4,6 +4,7 @@
 //! section 6.2).
 #![tactic(auto)]
 
+mod as_sent;
 mod glimpses;
 mod ids;
 mod laps;
@@ -13,6 +14,7 @@ mod openings;
 mod outcomes;
 mod passes;
 
+pub use as_sent::{is_segment, mended, told_fault};
 pub use book_cmd_check::GivenIsns;
 pub use ids::key_ids;
 pub use listener::Listener;

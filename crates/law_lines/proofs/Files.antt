@@ -17,7 +17,7 @@ use Rattle.book_captures.specs.Captures.{capture_of}
 use Rattle.book_captures.specs.WholeFiles.{packets_kept}
 use Rattle.book_captures.proofs.PcapCaptures.{whole_is_read}
 use Rattle.book_scope.specs.PacketLines.{packet_lines}
-use Rattle.book_sessions.specs.Sessions.{all_stored}
+use Rattle.book_sessions.specs.Sessions.{all_captured}
 use Rattle.book_base.specs.Hexadecimal.{IsByte}
 use Rattle.law_lines.specs.SeenPackets.{IsSeen, AreSeen}
 use Rattle.law_lines.proofs.Lines.{lines_judged}
@@ -74,7 +74,7 @@ file_seen head kept file all few is =
     records_seen kept head 1 body (omega arith) bytes (omega arith) is.records
 
 pub files_judged : (head : PcapHead) (kept : List KeptPacket) (file : List ℕ) → All IsByte file → length file < 9223372036854775808 → IsPcapFile head kept [] file
-    → stored_input (packet_lines (capture_of file).packets) ≡ record { stored = all_stored (capture_of file).packets; fault = None }
+    → stored_input (packet_lines (capture_of file).packets) ≡ record { stored = all_captured (capture_of file).packets; fault = None }
 files_judged head kept file all few is =
     let read = whole_is_read head kept file all is in
     rw read (lines_judged (packets_kept head 1 kept) (file_seen head kept file all few is))

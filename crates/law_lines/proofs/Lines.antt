@@ -1,5 +1,5 @@
 -- The line of each packet is read back.
-use Rattle.std.proofs.Common.{◌≡◌, inl, inr, ℕ, ◌+◌, ◌/◌, ◌<◌, ◌≤◌, ◌^◌, Bool, true, false, List, [], ◌∷◌, ◌++◌, length, codes, decimal, Option, Some, None, Result, Ok, Err, if◌then◌else◌, refl, sym, ap, ◌∙◌, append_assoc, arith}
+use Rattle.std.proofs.Common.{◌≡◌, inl, inr, ℕ, ◌+◌, ◌/◌, ◌<◌, ◌≤◌, ◌^◌, Bool, true, false, List, [], ◌∷◌, ◌++◌, length, map, codes, decimal, Option, Some, None, Result, Ok, Err, if◌then◌else◌, refl, sym, ap, ◌∙◌, append_assoc, arith}
 use Rattle.std.specs.List.{All}
 use Rattle.std.proofs.lemmas.Bool.{cases_lt, le-ltb}
 use Rattle.std.proofs.lemmas.Fmt.{decimal_is_IsNumeral, length-decimal-le}
@@ -20,7 +20,7 @@ use Rattle.book_captures.specs.Frames.{Datagram}
 use Rattle.book_captures.specs.Captures.{CapturePacket, frame_datagram}
 use Rattle.book_scope.specs.PacketLines.{header_text, reason_text, remark, judged_bytes, line_by, packet_line, packet_lines}
 use Rattle.book_sessions.specs.declared.outcome.PassedOver.{PassedOver}
-use Rattle.book_sessions.specs.Sessions.{stored_by, stored_of_packet, stored_before, all_stored}
+use Rattle.book_sessions.specs.Sessions.{all_captured, all_stored, captured_by, captured_of_packet, judged_of, mended_of, stored_before}
 use Rattle.book_base.specs.Hexadecimal.{IsByte}
 use Rattle.law_lines.specs.SeenPackets.{IsSeen, AreSeen}
 use Rattle.law_lines.proofs.Datagrams.{IsFound, is_found}
@@ -132,14 +132,14 @@ in_seconds : (t : ℕ) → t < 18446744073709551616 → t / 1000000000 < 1844674
 in_seconds t small = omega arith
 
 says_by : (number : ℕ) (time : Option ℕ) (r : Result Datagram Skipped) → number < 18446744073709551616 → ((n : ℕ) → r ≡ Err (UnknownLink n) → n < 18446744073709551616)
-    → ((t : ℕ) → time ≡ Some t → t < 18446744073709551616) → ((d : Datagram) → r ≡ Ok d → IsFound d) → Says number (line_by number time r) (stored_by number time r)
+    → ((t : ℕ) → time ≡ Some t → t < 18446744073709551616) → ((d : Datagram) → r ≡ Ok d → IsFound d) → Says number (line_by number time r) (captured_by number time r)
 unfolding newline_free
 says_by number None (Err why) small link low found = remark_says number (reason_text why) _ small (reason_brief why (λ n e. link n (ap Err e)))
 says_by number (Some t) (Err why) small link low found = remark_says number (reason_text why) _ small (reason_brief why (λ n e. link n (ap Err e)))
 says_by number None (Ok d) small link low found = remark_says number (codes "no time") _ small (brief (codes "no time") refl (omega arith))
 says_by number (Some t) (Ok d) small link low found = datagram_says number (t / 1000000000) d (in_seconds t (low t refl)) (found d refl)
 
-line_says : (p : CapturePacket) → IsSeen p → Says p.number (packet_line p) (stored_of_packet p)
+line_says : (p : CapturePacket) → IsSeen p → Says p.number (packet_line p) (captured_of_packet p)
 unfolding packet_line
 line_says p seen = says_by p.number p.frame.time (frame_datagram p.frame) seen.number (λ n e. rw (link_number p.frame n e) seen.link) seen.time (λ d e. is_found p.frame d seen.bytes e)
 
@@ -153,17 +153,26 @@ said_before n (Err why) others = refl
 lines_are : (p : CapturePacket) (ps : List CapturePacket) → NoNewline (packet_line p) → lines_of (packet_lines (p ∷ ps)) ≡ packet_line p ∷ lines_of (packet_lines ps)
 lines_are p ps plain = ap lines_of (append_assoc (packet_line p) (10 ∷ []) (packet_lines ps)) ∙ lines_of-line (packet_line p) plain (packet_lines ps)
 
-all_back : (packets : List CapturePacket) (n : ℕ) → AreSeen n packets → stored_from n (lines_of (packet_lines packets)) ≡ record { stored = all_stored packets; fault = None }
+all_back : (packets : List CapturePacket) (n : ℕ) → AreSeen n packets → stored_from n (lines_of (packet_lines packets)) ≡ record { stored = all_captured packets; fault = None }
 unfolding lines_of
 all_back [] n seen = refl
 all_back (p ∷ ps) n seen =
     let says = line_says p (seen.1) in
-    let back : stored_line n (packet_line p) ≡ Ok (said (stored_of_packet p)) = ap (λ m. stored_line m (packet_line p)) (sym (seen.0)) ∙ says.back in
+    let back : stored_line n (packet_line p) ≡ Ok (said (captured_of_packet p)) = ap (λ m. stored_line m (packet_line p)) (sym (seen.0)) ∙ says.back in
     ap (stored_from n) (lines_are p ps says.plain)
     ∙ (ap (λ r. by_line n r (stored_from (n + 1) (lines_of (packet_lines ps)))) back
-    ∙ (ap (by_line n (Ok (said (stored_of_packet p)))) (all_back ps (n + 1) (seen.2))
-    ∙ said_before n (stored_of_packet p) (all_stored ps)))
+    ∙ (ap (by_line n (Ok (said (captured_of_packet p)))) (all_back ps (n + 1) (seen.2))
+    ∙ said_before n (captured_of_packet p) (all_captured ps)))
 
-pub lines_judged : (packets : List CapturePacket) → AreSeen 1 packets → stored_input (packet_lines packets) ≡ record { stored = all_stored packets; fault = None }
+pub lines_judged : (packets : List CapturePacket) → AreSeen 1 packets → stored_input (packet_lines packets) ≡ record { stored = all_captured packets; fault = None }
 unfolding stored_input
 lines_judged packets seen = all_back packets 1 seen
+
+-- what is judged is what packets have, with its header checksums
+pub lines_mended : (packets : List CapturePacket) → all_stored packets ≡ map mended_of (all_captured packets)
+lines_mended [] = refl
+lines_mended (p ∷ ps) = at (captured_of_packet p) (lines_mended ps)
+  where
+    at : (r : Result Stored PassedOver) → all_stored ps ≡ map mended_of (all_captured ps) → stored_before (judged_of r) (all_stored ps) ≡ map mended_of (stored_before r (all_captured ps))
+    at (Ok s) e = ap (λ (l : List Stored). mended_of s ∷ l) e
+    at (Err why) e = e

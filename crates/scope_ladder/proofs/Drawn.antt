@@ -1,5 +1,5 @@
 -- What drawing a packet adds.
-use Rattle.std.proofs.Common.{◌≡◌, ℕ, ◌/◌, ◌≤◌, List, [], ◌∷◌, ◌++◌, take, drop, Option, Some, None, Result, Ok, Err, IfSome, OnOk, refl, sym, ap, subst, ◌∙◌}
+use Rattle.std.proofs.Common.{◌≡◌, ℕ, ◌/◌, ◌≤◌, false, List, [], ◌∷◌, ◌++◌, take, drop, Option, Some, None, Result, Ok, Err, IfSome, OnOk, refl, sym, ap, subst, ◌∙◌}
 use Rattle.std.proofs.lemmas.List.{append-nil}
 use Rattle.std.proofs.lemmas.List.Folds.{drop_split}
 use Rattle.book_captures.specs.declared.reasons.Skipped.{Skipped}
@@ -10,6 +10,7 @@ use Rattle.book_segments.specs.declared.fault.DatagramFault.{DatagramFault}
 use Rattle.book_segments.specs.Segments.{Segment, Reading, Read, Bad, reading}
 use Rattle.book_sessions.specs.declared.outcome.PassedOver.{PassedOver}
 use Rattle.book_sessions.specs.declared.outcome.SegmentOutcome.{SegmentOutcome}
+use Rattle.book_sessions.specs.AsSent.{lacks_checksum, mended}
 use Rattle.book_sessions.specs.Laps.{Judging}
 use Rattle.book_sessions.specs.Listening.{Listening, listen}
 use Rattle.book_sessions.specs.Sessions.{stored_by, stored_of_packet}
@@ -141,14 +142,14 @@ ok_stored s = Ok s
 
 -- what is judged of a datagram that was found, with those bytes behind it
 pub stored_found : (number t : ℕ) (time : Option ℕ) (frame : List ℕ) (d : FoundDatagram) (found : Result FoundDatagram Skipped) (bytes : List ℕ) → time ≡ Some t → found ≡ Ok d → d.first ≤ d.after → bytes ≡ take 65575 (drop d.first frame)
-    → ◌≡◌ {A = Result Stored PassedOver} (Ok (record { number = number; time = t / 1000000000; bytes = bytes })) (stored_by number time (found_in frame found))
+    → ◌≡◌ {A = Result Stored PassedOver} (Ok (record { number = number; time = t / 1000000000; bytes = mended bytes })) (stored_by number time (found_in frame found))
 stored_found number t time frame d found bytes time_is found_is ordered bytes_are =
     rw (time_is, found_is, bytes_are)
-    (ap (λ (xs : List ℕ). ok_stored (record { number = number; time = t / 1000000000; bytes = take 65575 xs })) (drop_split frame d.first d.after ordered))
+    (ap (λ (xs : List ℕ). ok_stored (record { number = number; time = t / 1000000000; bytes = mended (take 65575 xs) })) (drop_split frame d.first d.after ordered))
 
 pub adds_found : {E : Type 0} (result : Result (Unit {0}) E) (q : Request) (now : Drawer) (rungs : List SessionRung) (k : Listening) (number t : ℕ) (time : Option ℕ) (frame : List ℕ) (d : FoundDatagram) (found : Result FoundDatagram Skipped) (bytes : List ℕ)
     → time ≡ Some t → found ≡ Ok d → d.first ≤ d.after → bytes ≡ take 65575 (drop d.first frame)
-    → OnOk result (Adds q now rungs k (Some t) (Ok (record { number = number; time = t / 1000000000; bytes = bytes }))) → OnOk result (Adds q now rungs k time (stored_by number time (found_in frame found)))
+    → OnOk result (Adds q now rungs k (Some t) (Ok (record { number = number; time = t / 1000000000; bytes = mended bytes }))) → OnOk result (Adds q now rungs k time (stored_by number time (found_in frame found)))
 adds_found result q now rungs k number t time frame d found bytes time_is found_is ordered bytes_are adds =
     let same : ◌≡◌ {A = Option ℕ} (Some t) time = sym time_is in
     let a = subst (λ (s : Result Stored PassedOver). OnOk result (Adds q now rungs k (Some t) s)) (stored_found number t time frame d found bytes time_is found_is ordered bytes_are) adds in
@@ -167,3 +168,13 @@ pub adds_told : {E : Type 0} (result : Result (Unit {0}) E) (q : Request) (befor
 adds_told (Ok done) q before now rungs k follows packet time d told r shown empty heard same is number seeks text more form pushed keeps =
     adds_heard q before now rungs k follows packet time d told r shown empty heard same is number seeks text more form pushed keeps
 adds_told (Err e) q before now rungs k follows packet time d told r shown empty heard same is number seeks text more form pushed keeps = tt
+
+-- bytes whose header checksum is set
+pub whole_is : (bytes : List ℕ) → lacks_checksum bytes ≡ false → mended bytes ≡ bytes
+unfolding mended
+whole_is bytes free = rw free refl
+
+-- what is drawn of bytes is drawn of them as they are judged
+pub adds_mended : {E : Type 0} (result : Result (Unit {0}) E) (q : Request) (d : Drawer) (rungs : List SessionRung) (k : Listening) (time number : ℕ) (bytes whole : List ℕ) → whole ≡ mended bytes
+    → OnOk result (Adds q d rungs k (Some time) (Ok (record { number = number; time = time / 1000000000; bytes = whole }))) → OnOk result (Adds q d rungs k (Some time) (Ok (record { number = number; time = time / 1000000000; bytes = mended bytes })))
+adds_mended result q d rungs k time number bytes whole is adds = rw is at adds

@@ -2,6 +2,7 @@
 ghost use Rattle.std.specs.Prelude.{◌≡◌, ◌≤◌, ◌<◌, ◌/◌, ◌∷◌, ◌++◌, [], ℕ, List, IfOk, IsSome, Ok, OnOk, Some, length};
 ghost use Rattle.book_captures.specs.Captures.{CapturePacket};
 ghost use Rattle.book_segments.specs.Segments.{Read, reading};
+ghost use Rattle.book_sessions.specs.AsSent.{mended};
 ghost use Rattle.book_sessions.specs.Listening.{Listening, listening_behind};
 ghost use Rattle.book_sessions.specs.Sessions.{stored_by};
 ghost use Rattle.book_draw_session.specs.Rungs.{session_rung};
@@ -15,7 +16,7 @@ use ao_base::Steps;
 use book_draw_session::SessionRung;
 use book_draw_session_svg::LadderForm;
 use book_sessions::GivenIsns;
-use capture_listener::{HeardSegment, Listener, key_ids};
+use capture_listener::{HeardSegment, Listener, key_ids, mended};
 use capture_reader::FoundDatagram;
 use capture_stream::{CaptureReader, Skipped};
 use draw_session_rungs::{push_ends, push_rung};
@@ -165,8 +166,8 @@ impl Drawer {
         keep_shown(&mut self.kept, form, shown, &rung)
     }
 
-    // Draws the bytes that were seen at a time, in nanoseconds since 1970.
-    fn draw_stored<L: Ledger>(
+    // Draws the bytes that are judged at a time, in nanoseconds since 1970.
+    fn draw_judged<L: Ledger>(
         &mut self,
         alloc: Global,
         steps: &mut Steps<L>,
@@ -181,6 +182,26 @@ impl Drawer {
         match read_datagram(bytes) {
             Err(_) => Ok(()),
             Ok(datagram) => self.draw_datagram(alloc, steps, packet, time, &datagram),
+        }
+    }
+
+    // Draws the bytes that were seen at a time, in nanoseconds since 1970, with their header checksum.
+    fn draw_stored<L: Ledger>(
+        &mut self,
+        alloc: Global,
+        steps: &mut Steps<L>,
+        packet: u64,
+        time: u64,
+        bytes: &[u8],
+    ) -> Result<(), AllocError>
+        requires { self.old.text.items ≡ [] }
+        ensures { (q : Request) (rungs : List Segment) (k : Listening) → Follows q self.old rungs k
+            → OnOk result (Adds q self.new rungs k (Some time) (Ok (record { number = packet; time = time / 1000000000; bytes = mended bytes.now }))) }
+    {
+        let found = mended(alloc, bytes)?;
+        match found {
+            None => self.draw_judged(alloc, steps, packet, time, bytes),
+            Some(whole) => self.draw_judged(alloc, steps, packet, time, whole.as_slice()),
         }
     }
 

@@ -7,7 +7,8 @@ use Rattle.book_sessions.specs.declared.outcome.PassedOver.{PassedOver}
 use Rattle.book_sessions.specs.Laps.{Judging}
 use Rattle.book_sessions.specs.declared.uses.SeenSegment.{SeenSegment}
 use Rattle.book_sessions.specs.Listening.{Listening, Listened}
-use Rattle.book_sessions.specs.Sessions.{SessionTable, counted_by, seen_by, stored_of_packet}
+use Rattle.book_sessions.specs.Sessions.{SessionTable, and_unset, captured_of_packet, counted_by}
+use Rattle.book_sessions.specs.Sessions.{judged_of, seen_by, stored_of_packet}
 use Rattle.capture_listener.specs.Listeners.{Hearing, Knows}
 
 -- what was stored of this packet at this time
@@ -25,12 +26,18 @@ pub record IsHeard (s : Stored) (bytes : Reading) (said : Result SeenSegment Pas
   pub knows : Knows after l.listening
 
 -- a packet of which this is judged was counted: whatever is counted behind it
-pub record CountsStored (j : Judging) (k : Listening) (after : Hearing)
+pub record CountsJudged (j : Judging) (k : Listening) (after : Hearing)
     (before now : SessionTable) (stored : Result Stored PassedOver) : Type 0 where
   pub known : Listening
   pub knows : Knows after known
   pub counts : (others : Listening → SessionTable → SessionTable) →
       counted_by j k before stored others ≡ others known now
+
+-- a packet that has this was counted: whatever is counted behind it
+abbrev pub CountsStored : Judging → Listening → Hearing → (before now : SessionTable) →
+    Result Stored PassedOver → Type 0
+CountsStored j k after before now captured =
+    CountsJudged j k after (and_unset captured before) now (judged_of captured)
 
 -- a packet was counted: whatever packets follow
 pub record CountsPacket (j : Judging) (k : Listening) (after : Hearing)
@@ -38,4 +45,5 @@ pub record CountsPacket (j : Judging) (k : Listening) (after : Hearing)
   pub known : Listening
   pub knows : Knows after known
   pub counts : (others : Listening → SessionTable → SessionTable) →
-      counted_by j k before (stored_of_packet p) others ≡ others known now
+      counted_by j k (and_unset (captured_of_packet p) before) (stored_of_packet p) others
+      ≡ others known now

@@ -3,16 +3,16 @@ ghost use Rattle.std.specs.Prelude.{◌≡◌, ◌≤◌, ◌<◌, ℕ, List, If
 ghost use Rattle.ao_base.specs.Outside.{Side};
 ghost use Rattle.book_captures.specs.Captures.{CapturePacket};
 ghost use Rattle.book_sessions.specs.Listening.{Listening, listening_behind};
-ghost use Rattle.book_sessions.specs.Sessions.{no_sessions, stored_by};
+ghost use Rattle.book_sessions.specs.Sessions.{captured_by, no_sessions};
 ghost use Rattle.book_cmd_check.specs.declared.given.GivenIsns.{GivenIsns};
 ghost use Rattle.capture_listener.specs.Listeners.{Knows};
 ghost use Rattle.capture_stream.specs.Reads.{new_reading};
 ghost use Rattle.scope_lines.specs.Writes.{found_in};
-ghost use Rattle.scope_sessions.specs.Counting.{CountsPacket, CountsStored, stored_at};
+ghost use Rattle.scope_sessions.specs.Counting.{CountsPacket, CountsStored};
 ghost use Rattle.scope_sessions.specs.Reading.{Counts, counted_with, series_behind, series_of};
 
 use crate::due::{TextHalt, counted_since, second_of, write_due};
-use crate::heard::hear;
+use crate::stored::count_stored;
 use ao_base::{Sink, Source, Steps};
 use book_sessions::{GivenIsns, PassedOver};
 use book_sessions_json::TableRequest;
@@ -51,24 +51,6 @@ pub(crate) struct Counted {
     pub(crate) fault: Option<CaptureFault>,
 }
 
-// Counts the bytes that were stored at a time, in seconds since 1970.
-fn count_stored<L: Ledger>(
-    listener: &mut Listener,
-    index: &mut SessionIndex,
-    alloc: Global,
-    steps: &mut Steps<L>,
-    packet: u64,
-    time: u64,
-    bytes: &[u8],
-) -> Result<(), AllocError>
-    ensures counts { (k : Listening) → Knows listener.old k → OnOk result
-        (CountsStored listener.old.judging k listener.new index.old index.new (Ok (stored_at packet time bytes.now))) }
-    ensures judging { listener.new.judging ≡ listener.old.judging }
-{
-    let seen = hear(listener, alloc, steps, packet, time, bytes)?;
-    index.count(alloc, &seen)
-}
-
 // Counts a packet whose frame has this datagram, or none for this reason.
 fn count_found<L: Ledger>(
     listener: &mut Listener,
@@ -82,7 +64,7 @@ fn count_found<L: Ledger>(
 ) -> Result<(), AllocError>
     requires { IfOk found (λ d. (d.first ≤ d.after) × (d.after ≤ length frame.now)) }
     ensures counts { (k : Listening) → Knows listener.old k → OnOk result
-        (CountsStored listener.old.judging k listener.new index.old index.new (stored_by packet time (found_in frame.now found))) }
+        (CountsStored listener.old.judging k listener.new index.old index.new (captured_by packet time (found_in frame.now found))) }
     ensures judging { listener.new.judging ≡ listener.old.judging }
 {
     match found {

@@ -9,7 +9,7 @@ ghost use Rattle.scope_sessions.specs.Counting.{IsHeard, IsSeen, stored_at};
 
 use ao_base::Steps;
 use book_sessions::{PassedOver, SeenBits, SeenSegment};
-use capture_listener::{HeardSegment, Listener, key_ids};
+use capture_listener::{HeardSegment, Listener, key_ids, told_fault};
 use std::alloc::{AllocError, Global};
 use std::sync::ledger::Ledger;
 use tcp_segment::{Datagram, Flag, read_datagram};
@@ -73,7 +73,7 @@ pub(crate) fn hear<L: Ledger>(
     ensures judging { listener.new.judging ≡ listener.old.judging }
 {
     match read_datagram(bytes) {
-        Err(fault) => Ok(Err(PassedOver::Faulty(fault))),
+        Err(fault) => Ok(Err(PassedOver::Faulty(told_fault(bytes, fault)))),
         Ok(datagram) => {
             let seen = listen(listener, alloc, steps, packet, time, &datagram)?;
             Ok(Ok(seen))

@@ -101,12 +101,20 @@ fn push_others(
     passed: &[PassedCount],
 ) -> Result<(), AllocError>
     ensures { OnOk result (out.new.items ≡ out.old.items ++ (44 ∷ json_member (codes "other") (decimal others)
-        ++ (44 ∷ json_member (codes "reasons") (json_array (map passed_json passed.now)) ++ 125 ∷ []))) }
+        ++ (44 ∷ json_member (codes "reasons") (json_array (map passed_json passed.now))))) }
 {
     push_name(out, b',', b"other")?;
     push_decimal(out, others)?;
     push_name(out, b',', b"reasons")?;
-    push_reasons(alloc, out, passed)?;
+    push_reasons(alloc, out, passed)
+}
+
+// Puts how many segments have no header checksum behind `out`, as the last member.
+fn push_unset(out: &mut Vec<u8>, unset: u64) -> Result<(), AllocError>
+    ensures { OnOk result (out.new.items ≡ out.old.items ++ (44 ∷ json_member (codes "ip_checksum") (decimal unset) ++ 125 ∷ [])) }
+{
+    push_name(out, b',', b"ip_checksum")?;
+    push_decimal(out, unset)?;
     out.push(b'}')?;
     Ok(())
 }
@@ -124,5 +132,6 @@ pub(crate) fn push_packets(
     let segments = all_counted(index.uses()).ok_or(AllocError)?;
     let others = all_passed(index.passed()).ok_or(AllocError)?;
     push_seen(alloc, out, segments, index.uses())?;
-    push_others(alloc, out, others, index.passed())
+    push_others(alloc, out, others, index.passed())?;
+    push_unset(out, index.unset())
 }

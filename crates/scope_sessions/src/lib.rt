@@ -16,12 +16,14 @@ mod key_texts;
 mod obstacles;
 mod passed_texts;
 mod session_texts;
+mod stored;
 mod table_text;
 mod users;
 mod write;
 
 pub use book_lines::LineKind;
 pub use book_sessions_json::{TableForm, TableRequest};
+pub use capture_listener::{mended, told_fault};
 pub use halt::{JudgingHalt, halt_of, halt_of_lines};
 pub use isns::read_given;
 pub use passed_texts::push_passed;

@@ -3,15 +3,17 @@ ghost use Rattle.std.specs.Prelude.{◌≡◌, ◌++◌, ◌||◌, not, OnOk, If
 ghost use Rattle.std.specs.List.{list_any};
 ghost use Rattle.book_sessions.specs.Counts.{all_counted, all_passed};
 ghost use Rattle.book_sessions.specs.OutcomeTexts.{is_verified};
-ghost use Rattle.book_sessions.specs.SessionTexts.{has_amiss, sessions_text};
+ghost use Rattle.book_sessions.specs.SessionTexts.{has_amiss, sessions_text, unset_line};
 
 use crate::key_texts::push_keys;
 use crate::session_texts::{push_capture, push_counts, push_sessions};
+use ao_base::push_decimal;
 use book_sessions::{KeyUse, PassedCount};
 use key_table::Tables;
 use scope_retiring::{Evidence, has_doubtful, is_verified};
 use session_index::SessionIndex;
 use std::alloc::{AllocError, Global};
+use text_lines::push_newline;
 
 /// How many segments there are; None where they are more than 2^64 - 1.
 pub(crate) fn all_counted(uses: &[KeyUse]) -> Option<u64>
@@ -49,6 +51,18 @@ pub(crate) fn has_amiss(index: &SessionIndex) -> bool
     has_unverified(index.uses()) || has_doubtful(index.passed())
 }
 
+// Puts the line of so many segments without a header checksum behind `out`, if there are some.
+fn push_unset(out: &mut Vec<u8>, unset: u64) -> Result<(), AllocError>
+    ensures { OnOk result (out.new.items ≡ out.old.items ++ unset_line unset) }
+{
+    if unset == 0 {
+        return Ok(());
+    }
+    out.extend_from_slice(b"ip-checksum ")?;
+    push_decimal(out, unset)?;
+    push_newline(out)
+}
+
 /// Puts the text of a table behind `out`, with the keys of these tables. An error for want of memory,
 /// or where more than 2^64 - 1 packets are counted; then a part of it may stand there.
 pub(crate) fn push_table(
@@ -65,6 +79,7 @@ pub(crate) fn push_table(
     let evidence = Evidence::of(alloc, index)?;
     push_capture(out, segments, others, uses)?;
     push_counts(out, index.passed())?;
+    push_unset(out, index.unset())?;
     push_sessions(alloc, out, index)?;
     push_keys(out, &evidence, tables)?;
     Ok(())

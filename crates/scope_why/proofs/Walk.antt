@@ -19,7 +19,7 @@ use Rattle.book_keys.specs.Rows.{Table}
 use Rattle.book_scope_plan.specs.AdminNames.{KeyFile}
 use Rattle.book_segments.specs.Segments.{reading}
 use Rattle.book_sessions.specs.declared.outcome.PassedOver.{PassedOver}
-use Rattle.book_sessions.specs.Sessions.{all_stored, stored_before, stored_of_packet}
+use Rattle.book_sessions.specs.Sessions.{all_stored, captured_of_packet, judged_of, stored_before, stored_of_packet}
 use Rattle.book_why_texts.specs.Answers.{Behind, WhyAsked, behind_stored, has_number, no_packet_line, why_passes, why_text}
 use Rattle.book_why_texts.specs.OtherIsns.{told_by_reading, told_by_stored}
 use Rattle.book_why_texts.proofs.AnswerLaws.{missing_told, pass_told, text_told}
@@ -92,7 +92,7 @@ none_more n before p none other = All-append (λ q. has_number n q ≡ false) be
 -- ---- the packet that is asked for was reached
 
 module _ (keys : KeyFile) (asked : WhyAsked) (before : List CapturePacket) (p : CapturePacket) (given : List ℕ) (has : HasRead given (before ++ p ∷ [])) (earlier : NoneHas asked.number before) (here : has_number asked.number p ≡ true)
-    (answered : Answered) (answers : AnswersBehind keys (behind_stored keys.tables asked.given (all_stored before)) asked.with_key p.number (stored_of_packet p) answered) where
+    (answered : Answered) (answers : AnswersBehind keys (behind_stored keys.tables asked.given (all_stored before)) asked.with_key p.number (captured_of_packet p) answered) where
   later_packets : List ℕ → List CapturePacket
   later_packets more = (to_come has.reader (has.rest ++ more)).packets
 
@@ -287,7 +287,7 @@ module _ (keys : KeyFile) (asked : WhyAsked) (before : Reading) (checking : Chec
 
     -- it showed this packet, of the number, and this is the answer on it
     pub ends_here : (answered : Answered) (p : CapturePacket) → now.packet ≡ Some p → has_number asked.number p ≡ true
-        → AnswersBehind (record { document = keys.document; tables = checking.tables }) (behind_stored keys.tables asked.given (all_stored shown)) asked.with_key p.number (stored_of_packet p) answered
+        → AnswersBehind (record { document = keys.document; tables = checking.tables }) (behind_stored keys.tables asked.given (all_stored shown)) asked.with_key p.number (captured_of_packet p) answered
         → Reads keys asked (given ++ next) a c (Ok answered)
     ends_here answered p is here answers =
         let put : shown ++ listed now.packet ≡ shown ++ p ∷ [] = ap (λ o. shown ++ listed o) is in
@@ -308,16 +308,16 @@ module _ (keys : KeyFile) (asked : WhyAsked) (before : Reading) (checking : Chec
 
     -- the same, whatever packet it showed
     pub heard_found : (checking_now : Checking) (told_next : List GivenIsns) (number : ℕ) (st : Result StoredBytes PassedOver) (packet : Option CapturePacket) → now.packet ≡ packet → IsSome packet → IfSome packet (λ p. number ≡ p.number)
-        → (number ≡ asked.number → ⊥) → checking_now.tables ≡ checking.tables → ((p : CapturePacket) → now.packet ≡ Some p → stored_as p.number st ≡ stored_of_packet p)
-        → ((n : ℕ) → StandsBehind checking_now.entries told_next (behind_one checking.tables (behind_stored keys.tables asked.given (all_stored shown)) (stored_as n st)))
+        → (number ≡ asked.number → ⊥) → checking_now.tables ≡ checking.tables → ((p : CapturePacket) → now.packet ≡ Some p → stored_as p.number st ≡ captured_of_packet p)
+        → ((n : ℕ) → StandsBehind checking_now.entries told_next (behind_one checking.tables (behind_stored keys.tables asked.given (all_stored shown)) (judged_of (stored_as n st))))
         → Between keys asked now checking_now told_next (count + 1) (given ++ next) (shown ++ listed now.packet) a c
     heard_found checking_now told_next number st None is some number_is differs same stored stands = let bad : false ≡ true = some in absurd (cc)
     heard_found checking_now told_next number st (Some p) is some number_is differs same stored stands =
         heard_one checking_now told_next p is (number_differs p asked.number (λ e. differs (number_is ∙ e))) same
-        (subst (λ (r : Result Stored PassedOver). StandsBehind checking_now.entries told_next (behind_one checking.tables (behind_stored keys.tables asked.given (all_stored shown)) r)) (stored p is) (stands p.number))
+        (subst (λ (r : Result Stored PassedOver). StandsBehind checking_now.entries told_next (behind_one checking.tables (behind_stored keys.tables asked.given (all_stored shown)) (judged_of r))) (stored p is) (stands p.number))
 
     pub ends_found : (answered : Answered) (number : ℕ) (st : Result StoredBytes PassedOver) (packet : Option CapturePacket) → now.packet ≡ packet → IsSome packet → IfSome packet (λ p. number ≡ p.number)
-        → number ≡ asked.number → ((p : CapturePacket) → now.packet ≡ Some p → stored_as p.number st ≡ stored_of_packet p)
+        → number ≡ asked.number → ((p : CapturePacket) → now.packet ≡ Some p → stored_as p.number st ≡ captured_of_packet p)
         → AnswersBehind (record { document = keys.document; tables = checking.tables }) (behind_stored keys.tables asked.given (all_stored shown)) asked.with_key asked.number (stored_as asked.number st) answered
         → Reads keys asked (given ++ next) a c (Ok answered)
     ends_found answered number st None is some number_is same stored answers = let bad : false ≡ true = some in absurd (cc)

@@ -12,7 +12,7 @@ use Rattle.capture_check.specs.declared.flows.Flows.{Flows}
 use Rattle.capture_check.specs.Checkers.{StandsFor}
 use Rattle.scope_why.specs.declared.shown.StoredBytes.{StoredBytes}
 
--- what is judged of a packet of this number
+-- what a packet of this number has
 abbrev pub stored_as : ℕ → Result StoredBytes PassedOver → Result Stored PassedOver
 stored_as n (Ok s) = Ok (record { number = n; time = s.time; bytes = s.bytes.now })
 stored_as n (Err why) = Err why

@@ -5,9 +5,13 @@ use Rattle.book_keys.specs.Rows.{Table}
 use Rattle.book_cmd_check.specs.declared.given.GivenIsns.{GivenIsns}
 use Rattle.book_cmd_check.specs.Captures.{Stored, is_pass}
 use Rattle.book_scope_plan.specs.AdminNames.{KeyFile}
-use Rattle.book_segments.specs.Segments.{Segment}
+use Rattle.book_segments.specs.Segments.{Bad, Read, Reading, Segment, reading}
 use Rattle.book_sessions.specs.declared.outcome.PassedOver.{PassedOver}
-use Rattle.book_why_texts.specs.Answers.{Behind, WhyAsked, answer_behind, passes_behind, said_and_why, said_behind}
+use Rattle.book_sessions.specs.Sessions.{judged_of}
+use Rattle.book_sessions.specs.AsSent.{told_fault}
+use Rattle.book_sessions.specs.declared.outcome.PassedOver.TheVariants as passed
+use Rattle.book_why_texts.specs.Answers.{Behind, WhyAsked, answer_behind, no_segment_line, passes_behind}
+use Rattle.book_why_texts.specs.Answers.{said_and_why, said_behind, segment_line, unset_text}
 use Rattle.scope_why.specs.declared.question.Question.{Question}
 use Rattle.scope_why.specs.declared.answer.Answered.{Answered}
 
@@ -25,8 +29,21 @@ pub record SaysWhy (keys : KeyFile) (b : Behind) (with_key : Bool) (s : Stored) 
   pub text : now ≡ before ++ said_and_why keys b with_key s d
   pub passing : passes ≡ is_pass (said_behind keys.tables b s)
 
--- this is the answer on a packet of which this is judged
+-- the text for what is judged of a packet behind others, whose header checksum may not be set
+abbrev pub judged_text : KeyFile → Behind → (with_key unset : Bool) → Stored → Reading → List ℕ
+judged_text keys b with_key unset s (Bad fault) =
+    no_segment_line s.number (passed.Faulty (told_fault s.bytes fault))
+judged_text keys b with_key unset s (Read d) =
+    segment_line s d ++ (unset_text unset ++ said_and_why keys b with_key s d)
+
+-- this is the answer on what is judged of a packet, whose header checksum may not be set
+pub record AnswersJudged (keys : KeyFile) (b : Behind) (with_key unset : Bool) (s : Stored)
+    (answered : Answered) : Type 0 where
+  pub text : answered.text.items ≡ judged_text keys b with_key unset s (reading s.bytes)
+  pub passing : answered.passes ≡ is_pass (said_behind keys.tables b s)
+
+-- this is the answer on a packet that has this
 pub record AnswersBehind (keys : KeyFile) (b : Behind) (with_key : Bool) (number : ℕ)
     (stored : Result Stored PassedOver) (answered : Answered) : Type 0 where
   pub text : answered.text.items ≡ answer_behind keys b with_key number stored
-  pub passing : answered.passes ≡ passes_behind keys.tables b stored
+  pub passing : answered.passes ≡ passes_behind keys.tables b (judged_of stored)

@@ -6,11 +6,11 @@ ghost use Rattle.book_keys.specs.Rows.{has_address};
 ghost use Rattle.book_lines.specs.Texts.{line_text};
 ghost use Rattle.book_scope_texts.specs.Addresses.{usual_address_text};
 ghost use Rattle.book_segments.specs.Segments.{Bad, Read, reading};
-ghost use Rattle.book_why_texts.specs.Answers.{Behind, no_segment_line};
+ghost use Rattle.book_why_texts.specs.Answers.{Behind, no_segment_line, unset_text};
 ghost use Rattle.scope_why.specs.Facts.{AreWithin, inquiry_by, reason_by, with_others};
 ghost use Rattle.scope_why.specs.Finding.{IsWithin, lines_of_said};
 ghost use Rattle.scope_why.specs.Fronts.{StandsBehind, stored_as};
-ghost use Rattle.scope_why.specs.Replies.{AnswersBehind, SaysWhy, key_file_of};
+ghost use Rattle.scope_why.specs.Replies.{AnswersBehind, AnswersJudged, SaysWhy, key_file_of};
 ghost use Rattle.scope_why.specs.Views.{inquiry_of};
 
 use crate::facts::Facts;
@@ -28,7 +28,7 @@ use book_sessions::{GivenIsns, PassedOver};
 use book_why::IsnPair;
 use capture_check::{CheckLine, Checker};
 use key_table::{Table, Tables};
-use scope_sessions::push_host;
+use scope_sessions::{mended, push_host, told_fault};
 use std::alloc::{AllocError, Global};
 use std::sync::ledger::Ledger;
 use tcp_segment::{Datagram, read_datagram};
@@ -149,6 +149,16 @@ fn answer_other(alloc: Global, number: u64, why: PassedOver) -> Result<Answered,
     })
 }
 
+fn push_unset(out: &mut Vec<u8>, unset: bool) -> Result<(), AllocError>
+    ensures { OnOk result (out.new.items ≡ out.old.items ++ unset_text unset) }
+{
+    if unset {
+        out.extend_from_slice(b"ip-checksum wrong\n")
+    } else {
+        Ok(())
+    }
+}
+
 // The answer on a segment.
 fn answer_segment<L: Ledger>(
     checker: &mut Checker,
@@ -157,18 +167,54 @@ fn answer_segment<L: Ledger>(
     alloc: Global,
     steps: &mut Steps<L>,
     number: u64,
+    unset: bool,
     time: u64,
     datagram: &Datagram<'_>,
 ) -> Result<Answered, AllocError>
     ensures { (b : Behind) (bytes : List ℕ) → StandsBehind checker.old.entries told.now b → reading bytes ≡ Read datagram.now
-        → IfOk result (λ a. AnswersBehind (key_file_of question.now checker.old.tables) b question.now.with_key number (Ok (record { number = number; time = time; bytes = bytes })) a) }
+        → IfOk result (λ a. AnswersJudged (key_file_of question.now checker.old.tables) b question.now.with_key unset (record { number = number; time = time; bytes = bytes }) a) }
 {
     let mut text = Vec::new(alloc);
     push_segment_line(&mut text, number, time, datagram)?;
+    push_unset(&mut text, unset)?;
     let passes = push_said_and_why(
         checker, told, question, alloc, steps, time, datagram, &mut text,
     )?;
     Ok(Answered { text, passes })
+}
+
+// The answer on what is judged, whose header checksum may not be set.
+fn answer_judged<L: Ledger>(
+    checker: &mut Checker,
+    told: &[GivenIsns],
+    question: &Question<'_>,
+    alloc: Global,
+    steps: &mut Steps<L>,
+    number: u64,
+    unset: bool,
+    stored: StoredBytes<'_>,
+) -> Result<Answered, AllocError>
+    ensures { (b : Behind) → StandsBehind checker.old.entries told.now b
+        → IfOk result (λ a. AnswersJudged (key_file_of question.now checker.old.tables) b question.now.with_key unset (record { number = number; time = stored.time; bytes = stored.bytes.now }) a) }
+{
+    match read_datagram(stored.bytes) {
+        Err(fault) => answer_other(
+            alloc,
+            number,
+            PassedOver::Faulty(told_fault(stored.bytes, fault)),
+        ),
+        Ok(datagram) => answer_segment(
+            checker,
+            told,
+            question,
+            alloc,
+            steps,
+            number,
+            unset,
+            stored.time,
+            &datagram,
+        ),
+    }
 }
 
 // The answer on what was stored.
@@ -184,22 +230,28 @@ fn answer_stored<L: Ledger>(
     ensures { (b : Behind) → StandsBehind checker.old.entries told.now b
         → IfOk result (λ a. AnswersBehind (key_file_of question.now checker.old.tables) b question.now.with_key number (stored_as number (Ok stored.entry)) a) }
 {
-    match read_datagram(stored.bytes) {
-        Err(fault) => answer_other(alloc, number, PassedOver::Faulty(fault)),
-        Ok(datagram) => answer_segment(
+    let found = mended(alloc, stored.bytes)?;
+    match found {
+        None => answer_judged(
+            checker, told, question, alloc, steps, number, false, stored,
+        ),
+        Some(whole) => answer_judged(
             checker,
             told,
             question,
             alloc,
             steps,
             number,
-            stored.time,
-            &datagram,
+            true,
+            StoredBytes {
+                time: stored.time,
+                bytes: whole.as_slice(),
+            },
         ),
     }
 }
 
-/// The answer on a packet of this number of which this is judged, behind what the checker heard and what was
+/// The answer on a packet of this number that has this, behind what the checker heard and what was
 /// told.
 pub(crate) fn answer_packet<L: Ledger>(
     checker: &mut Checker,

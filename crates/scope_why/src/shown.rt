@@ -1,7 +1,7 @@
-//! What is judged of the packet that a reader shows.
+//! What the packet has that a reader shows.
 ghost use Rattle.std.specs.Prelude.{◌≡◌, ◌≤◌, ℕ, IfOk, IsSome, Some, length};
 ghost use Rattle.book_captures.specs.Captures.{CapturePacket};
-ghost use Rattle.book_sessions.specs.Sessions.{stored_by, stored_of_packet};
+ghost use Rattle.book_sessions.specs.Sessions.{captured_by, captured_of_packet};
 ghost use Rattle.scope_lines.specs.Writes.{found_in};
 ghost use Rattle.scope_why.specs.Fronts.{stored_as};
 
@@ -20,14 +20,14 @@ pub(crate) struct StoredBytes<'a> {
     pub(crate) bytes: &'a [u8],
 }
 
-// What is judged of a packet whose frame has this datagram, or none for this reason.
+// What a packet has whose frame has this datagram, or none for this reason.
 fn stored_found(
     time: Option<u64>,
     frame: &[u8],
     found: Result<FoundDatagram, Skipped>,
 ) -> Result<StoredBytes<'_>, PassedOver>
     requires { IfOk found (λ d. (d.first ≤ d.after) × (d.after ≤ length frame.now)) }
-    ensures { (number : ℕ) → stored_as number result ≡ stored_by number time (found_in frame.now found) }
+    ensures { (number : ℕ) → stored_as number result ≡ captured_by number time (found_in frame.now found) }
 {
     match found {
         Err(why) => Err(PassedOver::NoDatagram(why)),
@@ -41,10 +41,10 @@ fn stored_found(
     }
 }
 
-/// What is judged of the packet that the reader shows, or why it is passed over.
+/// What the packet has that the reader shows, or why it is passed over.
 pub(crate) fn stored_shown(reader: &CaptureReader) -> Result<StoredBytes<'_>, PassedOver>
     requires { IsSome reader.now.packet }
-    ensures { (p : CapturePacket) → reader.now.packet ≡ Some p → stored_as p.number result ≡ stored_of_packet p }
+    ensures { (p : CapturePacket) → reader.now.packet ≡ Some p → stored_as p.number result ≡ captured_of_packet p }
 {
     stored_found(reader.time(), reader.frame(), reader.datagram())
 }

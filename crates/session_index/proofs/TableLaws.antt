@@ -14,12 +14,12 @@ use Rattle.session_index.proofs.KeepLaws.{other_number, reached_first}
 use Rattle.session_index.proofs.NumberLaws.{all_more}
 use Rattle.session_index.proofs.PlaceLaws.{picked, places_none}
 
-abbrev pub table : ℕ → List KeyUse → List PassedCount → SessionTable
-table n uses passed = record { sessions = n; uses = uses; passed = passed }
+abbrev pub table : (unset : ℕ) → ℕ → List KeyUse → List PassedCount → SessionTable
+table unset n uses passed = record { sessions = n; uses = uses; passed = passed; unset = unset }
 
-module _ {E : Type 0} (n k : ℕ) (sg : Signs) (s : SeenSegment) (uses now : List KeyUse) (passed : List PassedCount) (groups : List (List ℕ)) (numbers : List (Pair × ℕ)) where
+module _ {E : Type 0} (unset n k : ℕ) (sg : Signs) (s : SeenSegment) (uses now : List KeyUse) (passed : List PassedCount) (groups : List (List ℕ)) (numbers : List (Pair × ℕ)) where
   pub counted_known : (result : Result (Unit {0}) E) (m : ℕ) → OnOk result (CountsSegment n sg s uses now groups numbers) → m ≡ k → sg ≡ signs_of s uses → number_between s.source s.destination uses ≡ Some n
-      → OnOk result (table m now passed ≡ and_segment (session_of s uses) s (table k uses passed))
+      → OnOk result (table unset m now passed ≡ and_segment (session_of s uses) s (table unset k uses passed))
   counted_known (Ok done) m C size shown e =
       let known : session_of s uses ≡ Some n = e in
       rw (size, C.uses, known, shown) refl
@@ -30,13 +30,13 @@ module _ {E : Type 0} (n k : ℕ) (sg : Signs) (s : SeenSegment) (uses now : Lis
   kept_known (Ok done) old C same I = C.indexed
   kept_known (Err error) old C same I = rw (same.0, same.1) I
 
-pub counted_first : {E : Type 0} (k : ℕ) (s : SeenSegment) (uses now : List KeyUse) (passed : List PassedCount) (groups : List (List ℕ)) (numbers : List (Pair × ℕ)) (result : Result (Unit {0}) E) (m : ℕ)
+pub counted_first : {E : Type 0} (unset k : ℕ) (s : SeenSegment) (uses now : List KeyUse) (passed : List PassedCount) (groups : List (List ℕ)) (numbers : List (Pair × ℕ)) (result : Result (Unit {0}) E) (m : ℕ)
     → HaveOneSession uses → OnOk result (CountsSegment (k + 1) (signs_at None s) s uses now groups numbers) → OnOk result (m ≡ k + 1) → number_between s.source s.destination uses ≡ None
-    → OnOk result (table m now passed ≡ and_segment (session_of s uses) s (table k uses passed))
-counted_first k s uses now passed groups numbers (Ok done) m one C size e =
+    → OnOk result (table unset m now passed ≡ and_segment (session_of s uses) s (table unset k uses passed))
+counted_first unset k s uses now passed groups numbers (Ok done) m one C size e =
     let none : session_of s uses ≡ None = e in
     rw (size, C.uses, none, reached_first uses s one e) refl
-counted_first k s uses now passed groups numbers (Err error) m one C size e = tt
+counted_first unset k s uses now passed groups numbers (Err error) m one C size e = tt
 
 -- no session has this number
 pub none_outside : (uses : List KeyUse) (groups : List (List ℕ)) (numbers : List (Pair × ℕ)) → IsIndexed uses groups numbers → (n : ℕ) → (n < 1) ⊎ (length groups < n) → places_of n uses ≡ []

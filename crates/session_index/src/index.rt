@@ -1,6 +1,6 @@
 //! A table of sessions, counted segment by segment.
-ghost use Rattle.std.specs.Prelude.{◌≡◌, ◌≤◌, IfOk, OnErr, OnOk, filter};
-ghost use Rattle.book_sessions.specs.Sessions.{and_counted, and_segment, no_sessions, session_of};
+ghost use Rattle.std.specs.Prelude.{◌≡◌, ◌≤◌, IfOk, OnErr, OnOk, filter, true};
+ghost use Rattle.book_sessions.specs.Sessions.{and_counted, and_segment, no_sessions, session_of, with_unset};
 ghost use Rattle.book_sessions.specs.SessionTexts.{is_of_session};
 ghost use Rattle.session_index.specs.Groups.{HaveOneSession};
 ghost use Rattle.session_index.specs.Places.{places_of};
@@ -15,7 +15,7 @@ use std::collections::BTreeMap;
 use std::marker::Model;
 
 /// A table of sessions: what its segments use, in the order in which it was first used, what was passed
-/// over, and how many sessions there are; seen as that table. The uses of a session are found by its two
+/// over, how many sessions there are, and how many segments have no header checksum; seen as that table. The uses of a session are found by its two
 /// sockets and by its number, so that a segment costs one look-up among the sessions and a walk over the
 /// uses of its own. Memory grows with uses, and not with segments.
 #[derive(Drop)]
@@ -24,6 +24,7 @@ pub struct SessionIndex {
     passed: Vec<PassedCount>,
     groups: Vec<Vec<usize>>,
     numbers: BTreeMap<Pair, usize>,
+    unset: u64,
 }
 
 impl Model for SessionIndex {
@@ -33,7 +34,7 @@ impl Model for SessionIndex {
 
     ghost Value = { SessionTable };
 
-    ghost view = { λ x. record { sessions = length x.groups.items; uses = x.uses.items; passed = x.passed.items } };
+    ghost view = { λ x. record { sessions = length x.groups.items; uses = x.uses.items; passed = x.passed.items; unset = x.unset } };
 
     ghost invariant = { λ x. IsIndexed x.uses.items (lists_of x.groups.items) x.numbers.entries };
 }
@@ -48,6 +49,7 @@ impl SessionIndex {
             passed: Vec::new(alloc),
             groups: Vec::new(alloc),
             numbers: BTreeMap::new(alloc),
+            unset: 0,
         }
     }
 
@@ -65,6 +67,13 @@ impl SessionIndex {
         ensures { result.now ≡ self.now.passed }
     {
         self.passed.as_slice()
+    }
+
+    /// How many segments have no header checksum.
+    pub fn unset(&self) -> u64
+        ensures { result ≡ self.now.unset }
+    {
+        self.unset
     }
 
     /// How many sessions there are. They have the numbers from 1 on.
@@ -116,6 +125,16 @@ impl SessionIndex {
                 segment,
             ),
         }
+    }
+
+    /// Counts a segment whose header checksum isn't set. After an error nothing has changed: it comes where
+    /// 2^64 - 1 are counted.
+    pub fn count_unset(&mut self) -> Result<(), AllocError>
+        ensures counted { OnOk result (self.new ≡ with_unset true self.old) }
+        ensures unchanged { OnErr result (self.new ≡ self.old) }
+    {
+        self.unset = self.unset.checked_add(1).ok_or(AllocError)?;
+        Ok(())
     }
 
     /// Counts a packet: a segment, or why it is passed over. After an error nothing has changed: it comes

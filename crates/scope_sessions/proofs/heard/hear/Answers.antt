@@ -5,4 +5,4 @@ use Rattle.scope_sessions.proofs.heard.hear.Goals as goal
 
 pub returns-in-Err-clause-heard : goal.returns-in-Err-clause-heard
 returns-in-Err-clause-heard g c = λ k knows.
-    heard_bad c.args.listener.now.judging k c.args.listener.now (stored_at c.args.packet c.args.time c.args.bytes.now) (reading c.args.bytes.now) c.in-Err.fault c.in-Err.ensures.refused knows
+    heard_bad c.args.listener.now.judging k c.args.listener.now (stored_at c.args.packet c.args.time c.args.bytes.now) (reading c.args.bytes.now) c.in-Err.fault c.told_fault.result c.in-Err.ensures.refused c.told_fault.ensures knows

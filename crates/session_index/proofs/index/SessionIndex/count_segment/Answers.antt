@@ -29,7 +29,7 @@ invariant_of-self c =
     let s = c.args.segment.now in
     let x = c.self.inside in
     let e = sym (c.self.invariant.numbered s.source s.destination) ∙ (sym c.number_of.ensures ∙ c.in-Some.is) in
-    kept_known c.in-Some.number (length x.groups.items) c.signs_among-signs.result s x.uses.items c.count_known.new.uses.items x.passed.items (lists_of c.count_known.new.groups.items) x.numbers.entries
+    kept_known x.unset c.in-Some.number (length x.groups.items) c.signs_among-signs.result s x.uses.items c.count_known.new.uses.items x.passed.items (lists_of c.count_known.new.groups.items) x.numbers.entries
     c.count_known.result (lists_of x.groups.items) (c.count_known.ensures.counted x.numbers.entries c.self.invariant e) c.count_known.ensures.unchanged c.self.invariant
 
 pub returns-in-Some-clause-counted : goal.returns-in-Some-clause-counted
@@ -38,7 +38,7 @@ returns-in-Some-clause-counted c =
     let x = c.self.inside in
     let e = sym (c.self.invariant.numbered s.source s.destination) ∙ (sym c.number_of.ensures ∙ c.in-Some.is) in
     let shown = rw (c.as_slice.ensures.value) at (c.signs_among-signs.ensures x.numbers.entries (rw (c.as_slice.ensures.value) c.self.invariant) (rw (c.as_slice.ensures.value) e)) in
-    rw (← c.self.view_is) (counted_known c.in-Some.number (length x.groups.items) c.signs_among-signs.result s x.uses.items c.count_known.new.uses.items x.passed.items (lists_of c.count_known.new.groups.items) x.numbers.entries
+    rw (← c.self.view_is) (counted_known x.unset c.in-Some.number (length x.groups.items) c.signs_among-signs.result s x.uses.items c.count_known.new.uses.items x.passed.items (lists_of c.count_known.new.groups.items) x.numbers.entries
     c.count_known.result (length c.count_known.new.groups.items) (c.count_known.ensures.counted x.numbers.entries c.self.invariant e) c.count_known.ensures.size shown e)
 
 pub returns-in-None-clause-counted : goal.returns-in-None-clause-counted
@@ -46,5 +46,5 @@ returns-in-None-clause-counted c =
     let s = c.args.segment.now in
     let x = c.self.inside in
     let e = sym (c.self.invariant.numbered s.source s.destination) ∙ (sym c.number_of.ensures ∙ c.in-None.is) in
-    rw (← c.self.view_is) (counted_first (length x.groups.items) s x.uses.items c.count_first.new.uses.items x.passed.items (lists_of c.count_first.new.groups.items) c.count_first.new.numbers.entries
+    rw (← c.self.view_is) (counted_first x.unset (length x.groups.items) s x.uses.items c.count_first.new.uses.items x.passed.items (lists_of c.count_first.new.groups.items) c.count_first.new.numbers.entries
     c.count_first.result (length c.count_first.new.groups.items) c.self.invariant.one (rw (← c.signs_at.ensures) (c.count_first.ensures.counted c.self.invariant e)) c.count_first.ensures.size e)

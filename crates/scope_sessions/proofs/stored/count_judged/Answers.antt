@@ -1,6 +1,6 @@
 use Rattle.scope_sessions.specs.Counting.{stored_at}
 use Rattle.scope_sessions.proofs.Counting.{stored_on}
-use Rattle.scope_sessions.proofs.count.count_stored.Goals as goal
+use Rattle.scope_sessions.proofs.stored.count_judged.Goals as goal
 
 pub returns-clause-counts : goal.returns-clause-counts
 returns-clause-counts g c = λ k knows.
