@@ -8,7 +8,8 @@ pub(crate) const ABOUT: &str =
 pub(crate) const AFTER: &str =
     "KEYS is a key file of `aotcp`; the capture is read from standard input. Of each \
 session there is a line with its sockets, and one for the segments of each direction under each KeyID that \
-are verified, and for those that aren't, by the reason. Of each key of the file there is who used it last, \
+are verified, and for those that aren't, by the reason; md5 in place of key and the KeyID is of segments with TCP \
+MD5 alone, and plain of those with neither. Of each key of the file there is its name, who used it last, \
 whether a peer asks for it, and whether it may go: whether no direction of a session uses it still or asks \
 for it.
 

@@ -13,8 +13,10 @@ use Rattle.book_sessions.specs.declared.outcome.SegmentOutcome.TheVariants as ou
 use Rattle.book_sessions.specs.declared.uses.FlowIsns.{FlowIsns}
 use Rattle.book_sessions.specs.declared.uses.SeenSegment.{SeenSegment}
 use Rattle.book_sessions.specs.declared.uses.KeyUse.{KeyUse}
+use Rattle.book_sessions.specs.declared.uses.Protection.{Protection}
+use Rattle.book_sessions.specs.declared.uses.Protection.TheVariants as protection
 use Rattle.book_sessions.specs.OutcomeTexts.{outcome_text}
-use Rattle.book_sessions.specs.Sessions.{asked_by, carries_ids_of, goes_as, isns_of, key_id_of, passed_as, passed_row, same_flow, same_id, same_outcome, is_use_of}
+use Rattle.book_sessions.specs.Sessions.{asked_by, carries_ids_of, goes_as, isns_of, key_id_of, passed_as, passed_row, same_flow, same_id, same_outcome, same_protection, is_use_of}
 use Rattle.book_sessions.specs.Counts.{as_checked, is_like, use_as_checked}
 use Rattle.book_sessions.proofs.Hearing.{seen_as_checked}
 use Rattle.book_sessions.proofs.Sums.{IsKind}
@@ -41,6 +43,24 @@ flow_is (Some a) (Some b) e =
     let own = eqb-true a.own b.own both.0 in
     let peer = id_is a.peer b.peer both.1 in
     ap (λ (n : ℕ). Some (record { own = n; peer = a.peer })) own ∙ ap (λ (p : Option ℕ). Some (record { own = b.own; peer = p })) peer
+
+protection_is : (a b : Protection) → same_protection a b ≡ true → a ≡ b
+protection_is protection.Ao protection.Ao e = refl
+protection_is protection.Ao protection.Md5 e = absurd (cc)
+protection_is protection.Ao protection.Plain e = absurd (cc)
+protection_is protection.Ao protection.Unclear e = absurd (cc)
+protection_is protection.Md5 protection.Ao e = absurd (cc)
+protection_is protection.Md5 protection.Md5 e = refl
+protection_is protection.Md5 protection.Plain e = absurd (cc)
+protection_is protection.Md5 protection.Unclear e = absurd (cc)
+protection_is protection.Plain protection.Ao e = absurd (cc)
+protection_is protection.Plain protection.Md5 e = absurd (cc)
+protection_is protection.Plain protection.Plain e = refl
+protection_is protection.Plain protection.Unclear e = absurd (cc)
+protection_is protection.Unclear protection.Ao e = absurd (cc)
+protection_is protection.Unclear protection.Md5 e = absurd (cc)
+protection_is protection.Unclear protection.Plain e = absurd (cc)
+protection_is protection.Unclear protection.Unclear e = refl
 
 text_is : (one two : SegmentOutcome) → same_outcome one two ≡ true → outcome_text one ≡ outcome_text two
 text_is one two e = (bytes_eq-Decides (outcome_text one) (outcome_text two)).0 e
@@ -83,6 +103,7 @@ pub record SameKind (s : SeenSegment) (u : KeyUse) : Type 0 where
   pub destination : s.destination ≡ u.destination
   pub key_id : key_id_of s ≡ u.key_id
   pub asked : asked_by s ≡ u.asked
+  pub protection : s.protection ≡ u.protection
   pub row : passed_row s ≡ u.row
   pub isns : isns_of s ≡ u.isns
   pub said : same_outcome s.outcome u.outcome ≡ true
@@ -92,7 +113,8 @@ kind_parts s u e =
     let halves = and_parts (goes_as s u) (carries_ids_of s u && (same_outcome s.outcome u.outcome && passed_as s u)) e in
     let sockets = and_parts (same_socket s.source u.source) (same_socket s.destination u.destination) halves.0 in
     let others = and_parts (carries_ids_of s u) (same_outcome s.outcome u.outcome && passed_as s u) halves.1 in
-    let ids = and_parts (same_id (key_id_of s) u.key_id) (same_id (asked_by s) u.asked) others.0 in
+    let carried = and_parts (same_id (key_id_of s) u.key_id && same_id (asked_by s) u.asked) (same_protection s.protection u.protection) others.0 in
+    let ids = and_parts (same_id (key_id_of s) u.key_id) (same_id (asked_by s) u.asked) carried.0 in
     let ends = and_parts (same_outcome s.outcome u.outcome) (passed_as s u) others.1 in
     let pass = and_parts (same_id (passed_row s) u.row) (same_flow (isns_of s) u.isns) ends.1 in
     record {
@@ -100,6 +122,7 @@ kind_parts s u e =
       destination = socket_is s.destination u.destination sockets.1;
       key_id = id_is (key_id_of s) u.key_id ids.0;
       asked = id_is (asked_by s) u.asked ids.1;
+      protection = protection_is s.protection u.protection carried.1;
       row = id_is (passed_row s) u.row pass.0;
       isns = flow_is (isns_of s) u.isns pass.1;
       said = ends.0;
@@ -127,15 +150,15 @@ module _ (k : SeenSegment) where
   fits_way a b = same_socket k.source a && same_socket k.destination b
 
   -- the segment carries these ids, this is said of it, and it passed so
-  abbrev fits_rest : (id asked : Option ℕ) → List ℕ → Option ℕ → Option FlowIsns → Bool
-  fits_rest id asked text row isns = (same_id (key_id_of k) id && same_id (asked_by k) asked)
+  abbrev fits_rest : (id asked : Option ℕ) → Protection → List ℕ → Option ℕ → Option FlowIsns → Bool
+  fits_rest id asked protection text row isns = ((same_id (key_id_of k) id && same_id (asked_by k) asked) && same_protection k.protection protection)
       && (bytes_eq (outcome_text k.outcome) text && (same_id (passed_row k) row && same_flow (isns_of k) isns))
 
   same_kind : (s : SeenSegment) (u : KeyUse) (one two : List ℕ) → SameKind s u → one ≡ two
-      → (fits_way u.source u.destination && fits_rest u.key_id u.asked two u.row u.isns)
-      ≡ (fits_way s.source s.destination && fits_rest (key_id_of s) (asked_by s) one (passed_row s) (isns_of s))
+      → (fits_way u.source u.destination && fits_rest u.key_id u.asked u.protection two u.row u.isns)
+      ≡ (fits_way s.source s.destination && fits_rest (key_id_of s) (asked_by s) s.protection one (passed_row s) (isns_of s))
   same_kind s u one two same d =
-      rw (same.source, same.destination, same.key_id, same.asked, same.row, same.isns, d) refl
+      rw (same.source, same.destination, same.key_id, same.asked, same.protection, same.row, same.isns, d) refl
 
   same_way : (s : SeenSegment) (u : KeyUse) → is_use_of s u ≡ true → is_use_of k u ≡ is_like k s
   same_way s u is = let same = kind_parts s u is in same_kind s u (outcome_text s.outcome) (outcome_text u.outcome) same (text_is s.outcome u.outcome same.said)

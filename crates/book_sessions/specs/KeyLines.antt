@@ -3,9 +3,12 @@
 use Rattle.std.specs.Prelude.{ℕ, suc, ◌&&◌, ◌||◌, nat_lt, Bool, not, true, false, List, [], ◌∷◌}
 use Rattle.std.specs.Prelude.{◌++◌, codes, decimal, Option, Some, None, if◌then◌else◌}
 use Rattle.std.specs.List.{find, flat_map, list_any}
+use Rattle.toml.specs.Data.{Members}
 use Rattle.book_base.specs.declared.address.Address.{Address}
 use Rattle.book_keys.specs.Rows.{Row, Table, names}
 use Rattle.book_lines.specs.Texts.{line_text}
+use Rattle.book_scope_plan.specs.AdminNames.{KeyFile, admin_name}
+use Rattle.book_scope_plan.specs.FindingTexts.{admin_text}
 use Rattle.book_scope_texts.specs.Addresses.{usual_address_text}
 use Rattle.book_scope_texts.specs.Instants.{instant_text}
 use Rattle.book_sessions.specs.declared.retiring.MayGo.{MayGo}
@@ -138,22 +141,25 @@ obstacle_lines e tables t n r =
 
 -- ---- a row
 
+-- the name of a node, and what the document calls its row of this number (own)
+abbrev pub called_row : Members → Table → (n : ℕ) → List ℕ
+called_row document t n = t.name ++ admin_text (admin_name document t.name n)
+
 -- the line of the row of this number of a node (own)
-abbrev pub key_line : Evidence → List Table → Table → (n : ℕ) → Row → List ℕ
-key_line e tables t n r =
-    line_text (codes "key" ∷ decimal n ∷ codes "of" ∷ t.name
+abbrev pub key_line : KeyFile → Evidence → Table → (n : ℕ) → Row → List ℕ
+key_line keys e t n r =
+    line_text (codes "key" ∷ decimal n ∷ codes "of" ∷ called_row keys.document t n
     ∷ codes "send-id" ∷ decimal r.send_id ∷ codes "recv-id" ∷ decimal r.recv_id
     ∷ last_texts (last_of (carries_row t n r) e.uses)
     (asking_texts (find (asks_still e t n r) e.live)
-    (may_go_text (may_go e tables t n r) ∷ seen_peers_text (list_any is_any r.peers))))
-    ++ obstacle_lines e tables t n r
+    (may_go_text (may_go e keys.tables t n r) ∷ seen_peers_text (list_any is_any r.peers))))
+    ++ obstacle_lines e keys.tables t n r
 
 -- the lines of rows of a node, the first one having number n (own)
-abbrev pub key_lines : Evidence → List Table → Table → (n : ℕ) → List Row → List ℕ
-key_lines e tables t n [] = []
-key_lines e tables t n (r ∷ rs) =
-    key_line e tables t n r ++ key_lines e tables t (suc n) rs
+abbrev pub key_lines : KeyFile → Evidence → Table → (n : ℕ) → List Row → List ℕ
+key_lines keys e t n [] = []
+key_lines keys e t n (r ∷ rs) = key_line keys e t n r ++ key_lines keys e t (suc n) rs
 
 -- the lines of the rows of all nodes (own)
-abbrev pub keys_lines : Evidence → List Table → List ℕ
-keys_lines e tables = flat_map (λ t. key_lines e tables t 1 t.rows) tables
+abbrev pub keys_lines : KeyFile → Evidence → List ℕ
+keys_lines keys e = flat_map (λ t. key_lines keys e t 1 t.rows) keys.tables

@@ -2,11 +2,13 @@
 use Rattle.std.specs.Prelude.{ℕ, zero, suc, ◌==◌, ◌&&◌, ◌||◌, min, Bool, not, List, [], ◌∷◌}
 use Rattle.std.specs.Prelude.{◌++◌, codes, decimal, Option, Some, None, if◌then◌else◌}
 use Rattle.std.specs.List.{find, flat_map, list_any}
-use Rattle.book_keys.specs.Rows.{Table}
 use Rattle.book_lines.specs.Texts.{line_text}
+use Rattle.book_scope_plan.specs.AdminNames.{KeyFile}
 use Rattle.book_scope_texts.specs.Addresses.{usual_address_text}
 use Rattle.book_scope_texts.specs.Instants.{instant_text}
 use Rattle.book_sessions.specs.declared.uses.KeyUse.{KeyUse}
+use Rattle.book_sessions.specs.declared.uses.Protection.{Protection}
+use Rattle.book_sessions.specs.declared.uses.Protection.TheVariants as protection
 use Rattle.book_sessions.specs.declared.uses.PassedCount.{PassedCount}
 use Rattle.book_sessions.specs.OutcomeTexts.{outcome_text, passed_text, is_verified, is_doubtful}
 use Rattle.book_sessions.specs.Counts.{all_counted, all_passed}
@@ -57,10 +59,18 @@ heading_line number handshake (Some u) =
     ∷ usual_address_text u.destination.address ∷ decimal u.destination.port
     ∷ codes "handshake" ∷ seen_text handshake ∷ [])
 
+-- how segments are protected: under this KeyID, by TCP MD5, by neither, or by more than one option
+-- (own)
+abbrev pub protection_text : Protection → (key_id : Option ℕ) → List ℕ
+protection_text protection.Ao id = codes "key " ++ id_text id
+protection_text protection.Md5 id = codes "md5"
+protection_text protection.Plain id = codes "plain"
+protection_text protection.Unclear id = codes "key " ++ id_text None
+
 -- the line of the segments of one direction with one KeyID, of which the same is said (own)
 abbrev pub use_line : KeyUse → List ℕ
 use_line u = line_text (codes " " ∷ usual_address_text u.source.address ∷ codes ">"
-    ∷ usual_address_text u.destination.address ∷ codes "key" ∷ id_text u.key_id
+    ∷ usual_address_text u.destination.address ∷ protection_text u.protection u.key_id
     ∷ outcome_text u.outcome ∷ decimal u.segments ∷ codes "first" ∷ instant_text u.first
     ∷ codes "last" ∷ instant_text u.last ∷ codes "asks" ∷ id_text u.asked
     ∷ codes "packet" ∷ decimal u.packet ∷ [])
@@ -91,11 +101,11 @@ unset_line (suc n) = line_text (codes "ip-checksum" ∷ decimal (suc n) ∷ [])
 
 -- the text of a table: the capture, why packets are no segments, how many segments have no header
 -- checksum, each session, and each key of the key file (own)
-unfoldable pub sessions_text : List Table → SessionTable → List ℕ
-sessions_text tables t =
+unfoldable pub sessions_text : KeyFile → SessionTable → List ℕ
+sessions_text keys t =
     capture_line (all_counted t.uses) (all_passed t.passed) t.uses
     ++ (flat_map passed_line t.passed ++ (unset_line t.unset ++ (sessions_lines t.uses t.sessions
-    ++ keys_lines (evidence_of t) tables)))
+    ++ keys_lines keys (evidence_of t))))
 
 -- a segment isn't verified, or a packet that is passed over may be one (own)
 unfoldable pub has_amiss : SessionTable → Bool

@@ -3,12 +3,13 @@
 use Rattle.std.specs.Prelude.{ℕ, ◌+◌, ◌/◌, ◌==◌, nat_lt, min, max, Bool, true, false, ◌&&◌, ◌||◌}
 use Rattle.std.specs.Prelude.{not, List, [], ◌∷◌, is_some}
 use Rattle.std.specs.Prelude.{Option, Some, None, option_map, Result, Ok, Err, if◌then◌else◌}
-use Rattle.std.specs.List.{find}
+use Rattle.std.specs.List.{find, list_any}
 use Rattle.std.specs.Option.{unwrap_or}
 use Rattle.std.specs.Str.{bytes_eq}
 use Rattle.book_segments.specs.declared.fault.DatagramFault.{DatagramFault}
 use Rattle.book_segments.specs.Sockets.{same_socket}
 use Rattle.book_segments.specs.Options.{AoFound, Absent, One, Two, WithMd5, find_ao}
+use Rattle.book_segments.specs.Options.{Plain, listed, md5_kind, options_of, plains}
 use Rattle.book_segments.specs.Segments.{Segment, Reading, Read, Bad, reading, has, SYN, ACK}
 use Rattle.book_segments.specs.Segments.{FIN, RST, segment_length}
 use Rattle.book_endpoint.specs.States.{number_limit}
@@ -24,6 +25,8 @@ use Rattle.book_sessions.specs.declared.outcome.PassedOver.{PassedOver}
 use Rattle.book_sessions.specs.declared.outcome.PassedOver.TheVariants as passed
 use Rattle.book_sessions.specs.declared.uses.FlowIsns.{FlowIsns}
 use Rattle.book_sessions.specs.declared.uses.KeyIds.{KeyIds}
+use Rattle.book_sessions.specs.declared.uses.Protection.{Protection}
+use Rattle.book_sessions.specs.declared.uses.Protection.TheVariants as protection
 use Rattle.book_sessions.specs.declared.uses.SeenBits.{SeenBits}
 use Rattle.book_sessions.specs.declared.uses.SeenPass.{SeenPass}
 use Rattle.book_sessions.specs.declared.uses.SeenSegment.{SeenSegment}
@@ -31,6 +34,7 @@ use Rattle.book_sessions.specs.declared.uses.Signs.{Signs}
 use Rattle.book_sessions.specs.declared.uses.KeyUse.{KeyUse}
 use Rattle.book_sessions.specs.declared.uses.PassedCount.{PassedCount}
 use Rattle.book_sessions.specs.contracts.outcome.PassedOverPartialEq.TheImpl as passed_eq
+use Rattle.book_sessions.specs.contracts.uses.ProtectionPartialEq.TheImpl as protection_eq
 use Rattle.book_sessions.specs.AsSent.{is_unset_segment, mended, told_fault}
 use Rattle.book_sessions.specs.Laps.{Judging}
 use Rattle.book_sessions.specs.Listening.{Listened, Listening, listen, listening_behind}
@@ -49,6 +53,26 @@ ids_found (One ao) = Some (record { key_id = ao.key_id; rnext_key_id = ao.rnext_
 ids_found Absent = None
 ids_found Two = None
 ids_found WithMd5 = None
+
+-- the option is of TCP MD5 (RFC 2385, section 3.0)
+abbrev pub is_md5 : Plain → Bool
+is_md5 o = o.kind == md5_kind
+
+-- one of the options of an area is of TCP MD5 (RFC 2385, section 3.0)
+abbrev pub carries_md5 : List ℕ → Bool
+carries_md5 area = list_any is_md5 (plains (listed (options_of area)))
+
+-- how a segment is protected, by what was found of TCP-AO and whether it carries TCP MD5 (RFC 5925,
+-- section 2.2, and own)
+abbrev pub protection_by : AoFound → (md5 : Bool) → Protection
+protection_by (One ao) md5 = protection.Ao
+protection_by Two md5 = protection.Unclear
+protection_by WithMd5 md5 = protection.Unclear
+protection_by Absent md5 = if md5 then protection.Md5 else protection.Plain
+
+-- how a segment with these options is protected (RFC 5925, section 2.2, and own)
+abbrev pub protection_of : List ℕ → Protection
+protection_of area = protection_by (find_ao area) (carries_md5 area)
 
 -- the control bits that begin or end a connection (RFC 9293, section 3.1)
 abbrev pub bits_of : Segment → SeenBits
@@ -88,6 +112,7 @@ seen_segment s d said pass = record {
   source = d.source;
   destination = d.destination;
   ids = ids_found (find_ao d.area);
+  protection = protection_of d.area;
   bits = bits_of d;
   outcome = said;
   pass = pass;
@@ -141,9 +166,14 @@ isns_of s = option_map (λ p. p.isns) s.pass
 abbrev pub goes_as : SeenSegment → KeyUse → Bool
 goes_as s u = same_socket s.source u.source && same_socket s.destination u.destination
 
--- a segment carries the ids of these (RFC 5925, section 2.2)
+-- two segments are protected alike (own)
+abbrev pub same_protection : Protection → Protection → Bool
+same_protection = (protection_eq.ghosts).eq
+
+-- a segment carries the ids of these, and is protected alike (RFC 5925, section 2.2)
 abbrev pub carries_ids_of : SeenSegment → KeyUse → Bool
-carries_ids_of s u = same_id (key_id_of s) u.key_id && same_id (asked_by s) u.asked
+carries_ids_of s u = (same_id (key_id_of s) u.key_id && same_id (asked_by s) u.asked)
+    && same_protection s.protection u.protection
 
 -- a segment passed under the row of these, in their connection, or none of them passed (own)
 abbrev pub passed_as : SeenSegment → KeyUse → Bool
@@ -228,6 +258,7 @@ first_use session g s = record {
   destination = s.destination;
   key_id = key_id_of s;
   asked = asked_by s;
+  protection = s.protection;
   outcome = s.outcome;
   row = passed_row s;
   isns = isns_of s;
@@ -250,6 +281,7 @@ used_again g s u = record {
   destination = u.destination;
   key_id = u.key_id;
   asked = u.asked;
+  protection = u.protection;
   outcome = u.outcome;
   row = u.row;
   isns = u.isns;

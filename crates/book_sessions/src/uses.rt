@@ -17,6 +17,19 @@ pub struct FlowIsns {
     pub peer: Option<u32>,
 }
 
+/// What the options of a segment say of how it is protected.
+#[derive(Clone, Copy, Debug, PartialEq, Eq)]
+pub enum Protection {
+    /// One TCP-AO option, and none of TCP MD5 (RFC 5925, section 2.2).
+    Ao,
+    /// An option of TCP MD5, and none of TCP-AO (RFC 2385, section 3.0).
+    Md5,
+    /// Neither.
+    Plain,
+    /// More than one TCP-AO option, or TCP MD5 beside one.
+    Unclear,
+}
+
 /// What the check found of a segment that passes: the row of its receiver's table, from 1; the number of
 /// its first byte, and the one after its last; and the initial sequence numbers of its connection.
 #[derive(Clone, Copy, Debug, PartialEq, Eq)]
@@ -37,8 +50,8 @@ pub struct SeenBits {
 }
 
 /// A segment of a capture: the number of its packet, when it was seen, in seconds since 1970, its sockets,
-/// its ids where it has one TCP-AO option, its control bits, what the check says of it, and what the check
-/// found of it where it is verified.
+/// its ids where it has one TCP-AO option, how it is protected, its control bits, what the check says of it,
+/// and what the check found of it where it is verified.
 #[derive(Clone, Copy, Debug, PartialEq, Eq)]
 pub struct SeenSegment {
     pub packet: u64,
@@ -46,6 +59,7 @@ pub struct SeenSegment {
     pub source: Socket,
     pub destination: Socket,
     pub ids: Option<KeyIds>,
+    pub protection: Protection,
     pub bits: SeenBits,
     pub outcome: SegmentOutcome,
     pub pass: Option<SeenPass>,
@@ -60,8 +74,8 @@ pub struct Signs {
     pub finishes: bool,
 }
 
-/// The segments from one socket to another with one KeyID and one RNextKeyID, or with no single ones, of
-/// which the check says the same, and, where they are verified, of one connection and under one row of
+/// The segments from one socket to another with one KeyID and one RNextKeyID, or with no single ones, and
+/// protected alike, of which the check says the same, and, where they are verified, of one connection and under one row of
 /// the receiver's table: the number of their session, whether one is a SYN with ACK, how many there are, the
 /// earliest and the latest time at which one was seen, in seconds since 1970, and the number of the last
 /// packet. `reached` is the greatest number after the last byte of one that passed. `moved` is the number of
@@ -74,6 +88,7 @@ pub struct KeyUse {
     pub destination: Socket,
     pub key_id: Option<u8>,
     pub asked: Option<u8>,
+    pub protection: Protection,
     pub outcome: SegmentOutcome,
     pub row: Option<u8>,
     pub isns: Option<FlowIsns>,

@@ -3,6 +3,7 @@ use Rattle.std.proofs.Common.{◌≡◌, ℕ, zero, suc, ◌+◌, List, [], ◌�
 use Rattle.book_sessions.specs.declared.uses.KeyUse.{KeyUse}
 use Rattle.book_sessions.specs.Retiring.{Evidence}
 use Rattle.book_keys.specs.Rows.{Row, Table}
+use Rattle.book_scope_plan.specs.AdminNames.{KeyFile}
 use Rattle.book_sessions_json.specs.SessionJson.{numbers_to, rows_json, session_json}
 
 module _ {A : Type 0} (f : ℕ → A) where
@@ -17,6 +18,6 @@ module _ {A : Type 0} (f : ℕ → A) where
 pub sessions_length : (uses : List KeyUse) (n : ℕ) → length (map (session_json uses) (numbers_to n)) ≡ n
 sessions_length uses n = numbers_length (session_json uses) n
 
-pub rows_length : (e : Evidence) (tables : List Table) (t : Table) (n : ℕ) (rows : List Row) → length (rows_json e tables t n rows) ≡ length rows
-rows_length e tables t n [] = refl
-rows_length e tables t n (r ∷ rs) = let others = rows_length e tables t (suc n) rs in omega arith
+pub rows_length : (keys : KeyFile) (e : Evidence) (t : Table) (n : ℕ) (rows : List Row) → length (rows_json keys e t n rows) ≡ length rows
+rows_length keys e t n [] = refl
+rows_length keys e t n (r ∷ rs) = let others = rows_length keys e t (suc n) rs in omega arith

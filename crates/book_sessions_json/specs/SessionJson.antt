@@ -8,12 +8,15 @@ use Rattle.book_base.specs.declared.address.Address.{Address}
 use Rattle.book_base.specs.declared.address.Socket.{Socket}
 use Rattle.book_segments.specs.Sockets.{same_socket}
 use Rattle.book_keys.specs.Rows.{Row, Table}
+use Rattle.book_scope_plan.specs.AdminNames.{KeyFile, admin_name}
 use Rattle.book_scope_texts.specs.Addresses.{usual_address_text}
 use Rattle.book_scope_texts.specs.Instants.{instant_text}
 use Rattle.book_sessions.specs.declared.retiring.MayGo.{MayGo}
 use Rattle.book_sessions.specs.declared.retiring.MayGo.TheVariants as go
 use Rattle.book_sessions.specs.declared.uses.KeyUse.{KeyUse}
 use Rattle.book_sessions.specs.declared.uses.PassedCount.{PassedCount}
+use Rattle.book_sessions.specs.declared.uses.Protection.{Protection}
+use Rattle.book_sessions.specs.declared.uses.Protection.TheVariants as protection
 use Rattle.book_sessions.specs.OutcomeTexts.{outcome_text, passed_text}
 use Rattle.book_sessions.specs.Counts.{all_counted, all_passed}
 use Rattle.book_sessions.specs.KeyLines.{asks_still, last_of}
@@ -72,10 +75,18 @@ end_json s = json_object (json_member (codes "address") (address_json s.address)
 abbrev pub sender_place : (heading one : KeyUse) → ℕ
 sender_place heading u = if same_socket u.source heading.source then 0 else 1
 
+-- how segments are protected, in a word (own)
+abbrev pub protection_word : Protection → List ℕ
+protection_word protection.Ao = codes "ao"
+protection_word protection.Md5 = codes "md5"
+protection_word protection.Plain = codes "plain"
+protection_word protection.Unclear = codes "unclear"
+
 -- the segments of one direction with one KeyID, of which the same is said (own)
 unfoldable pub use_json : (heading one : KeyUse) → List ℕ
 use_json heading u = json_object (json_member (codes "sender") (decimal (sender_place heading u))
     ∷ json_member (codes "key_id") (id_json u.key_id)
+    ∷ json_member (codes "protection") (json_string (protection_word u.protection))
     ∷ json_member (codes "outcome") (json_string (outcome_text u.outcome))
     ∷ json_member (codes "segments") (decimal u.segments)
     ∷ json_member (codes "first") (time_json u.first)
@@ -126,30 +137,36 @@ may_go_json go.Yes = json_bool true
 may_go_json go.No = json_bool false
 may_go_json go.Unknown = json_null
 
+-- what the operator calls a row, if it is named (RFC 7210, section 2, and own)
+abbrev pub name_json : Option (List ℕ) → List ℕ
+name_json None = json_null
+name_json (Some name) = json_string name
+
 -- the row of this number of a node (own)
-unfoldable pub key_json : Evidence → List Table → Table → (number : ℕ) → Row → List ℕ
-key_json e tables t n r = json_object (json_member (codes "node") (json_string t.name)
+unfoldable pub key_json : KeyFile → Evidence → Table → (number : ℕ) → Row → List ℕ
+key_json keys e t n r = json_object (json_member (codes "node") (json_string t.name)
     ∷ json_member (codes "row") (decimal n)
+    ∷ json_member (codes "name") (name_json (admin_name keys.document t.name n))
     ∷ json_member (codes "send_id") (decimal r.send_id)
     ∷ json_member (codes "recv_id") (decimal r.recv_id)
     ∷ json_member (codes "last_used") (last_used_json (last_of (carries_row t n r) e.uses))
     ∷ json_member (codes "asked_for") (asked_for_json (find (asks_still e t n r) e.live))
-    ∷ json_member (codes "may_go") (may_go_json (may_go e tables t n r)) ∷ [])
+    ∷ json_member (codes "may_go") (may_go_json (may_go e keys.tables t n r)) ∷ [])
 
 -- the rows of a node, the first one having number n (own)
-abbrev pub rows_json : Evidence → List Table → Table → (number : ℕ) → List Row → List (List ℕ)
-rows_json e tables t n [] = []
-rows_json e tables t n (r ∷ rs) = key_json e tables t n r ∷ rows_json e tables t (suc n) rs
+abbrev pub rows_json : KeyFile → Evidence → Table → (number : ℕ) → List Row → List (List ℕ)
+rows_json keys e t n [] = []
+rows_json keys e t n (r ∷ rs) = key_json keys e t n r ∷ rows_json keys e t (suc n) rs
 
 -- the rows of all nodes (own)
-abbrev pub keys_json : Evidence → List Table → List (List ℕ)
-keys_json e tables = flat_map (λ t. rows_json e tables t 1 t.rows) tables
+abbrev pub keys_json : KeyFile → Evidence → List (List ℕ)
+keys_json keys e = flat_map (λ t. rows_json keys e t 1 t.rows) keys.tables
 
 -- a table of sessions: the capture's packets, each session, each key of the key file, and whether
 -- anything is amiss; a line feed behind (own)
-unfoldable pub sessions_json : List Table → SessionTable → List ℕ
-sessions_json tables t = json_object (json_member (codes "packets") (packets_json t)
+unfoldable pub sessions_json : KeyFile → SessionTable → List ℕ
+sessions_json keys t = json_object (json_member (codes "packets") (packets_json t)
     ∷ json_member (codes "sessions")
     (json_array (map (session_json t.uses) (numbers_to t.sessions)))
-    ∷ json_member (codes "keys") (json_array (keys_json (evidence_of t) tables))
+    ∷ json_member (codes "keys") (json_array (keys_json keys (evidence_of t)))
     ∷ json_member (codes "amiss") (json_bool (has_amiss t)) ∷ []) ++ 10 ∷ []

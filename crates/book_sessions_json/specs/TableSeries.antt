@@ -2,9 +2,10 @@
 -- at its end. Our own format. Its top is `series_text`.
 use Rattle.std.specs.Prelude.{ℕ, ◌+◌, ◌/◌, nat_le, Bool, false, List, [], ◌∷◌, ◌++◌, codes}
 use Rattle.std.specs.Prelude.{Option, Some, None, option_map, if◌then◌else◌}
+use Rattle.toml.specs.Data.{Members}
 use Rattle.book_captures.specs.Captures.{CapturePacket}
 use Rattle.book_cmd_check.specs.declared.given.GivenIsns.{GivenIsns}
-use Rattle.book_keys.specs.Rows.{Table}
+use Rattle.book_scope_plan.specs.AdminNames.{KeyFile}
 use Rattle.book_lines.specs.Texts.{line_text}
 use Rattle.book_scope_texts.specs.Instants.{instant_text}
 use Rattle.book_sessions.specs.Laps.{Judging}
@@ -15,11 +16,16 @@ use Rattle.book_sessions_json.specs.declared.form.TableRequest.{TableRequest}
 use Rattle.book_sessions_json.specs.Forms.{written_as}
 
 -- the tables that are asked for of a capture, and how it is judged, as behind handshakes with the
--- given initial sequence numbers (own)
+-- given initial sequence numbers; and the document that the key file is (own)
 pub record Series : Type 0 where
+  pub document : Members
   pub judging : Judging
   pub given : List GivenIsns
   pub request : TableRequest
+
+-- the key file by which a capture is judged (own)
+abbrev pub series_keys : Series → KeyFile
+series_keys s = record { document = s.document; tables = s.judging.tables }
 
 -- the second at which a packet was seen, since 1970, if the capture says it (own)
 abbrev pub second_seen : CapturePacket → Option ℕ
@@ -49,14 +55,14 @@ time_line Lines None = []
 time_line Lines (Some now) = line_text (codes "at" ∷ instant_text now ∷ [])
 
 -- the table, if one is due (own)
-abbrev pub due_table : TableRequest → List Table → SessionTable → (since now : Option ℕ) → List ℕ
-due_table request tables t since now = if is_table_due request.every since now
-    then written_as request.form tables t ++ time_line request.form now else []
+abbrev pub due_table : TableRequest → KeyFile → SessionTable → (since now : Option ℕ) → List ℕ
+due_table request keys t since now = if is_table_due request.every since now
+    then written_as request.form keys t ++ time_line request.form now else []
 
 -- the table of these packets, if one is due (own)
 abbrev pub due_text : Series → List CapturePacket → (since now : Option ℕ) → List ℕ
 due_text s before since now =
-    due_table s.request s.judging.tables (sessions_of s.judging s.given before) since now
+    due_table s.request (series_keys s) (sessions_of s.judging s.given before) since now
 
 -- the tables that are due in front of these packets, behind those before (own)
 abbrev pub due_texts :
@@ -72,7 +78,7 @@ early_text s packets = due_texts s [] None packets
 -- the table of all packets (own)
 abbrev pub last_text : Series → List CapturePacket → List ℕ
 last_text s packets =
-    written_as s.request.form s.judging.tables (sessions_of s.judging s.given packets)
+    written_as s.request.form (series_keys s) (sessions_of s.judging s.given packets)
 
 -- all tables, the last one at the end (own)
 abbrev pub series_text : Series → List CapturePacket → List ℕ

@@ -2,6 +2,7 @@
 use Rattle.std.proofs.Common.{◌≡◌, ℕ, ◌≤◌, Bool, List, [], ◌++◌, length, Option, Some, None, Result, Ok, Err, inl, inr, refl, sym, ap, ◌∙◌, arith}
 use Rattle.std.proofs.lemmas.List.{append-nil}
 use Rattle.std.specs.List.{All}
+use Rattle.toml.specs.Data.{Members}
 use Rattle.ao_base.specs.Outside.{Side, Gave, WasWritten}
 use Rattle.ao_base.proofs.Sides.{gave_none, took_and_none, took_more, took_none}
 use Rattle.book_captures.specs.declared.capture_parts.CaptureFault.{CaptureFault}
@@ -14,32 +15,33 @@ use Rattle.book_lines.specs.declared.text_fault.TextFault.TheVariants as line_fa
 use Rattle.book_sessions.specs.GivenLines.{given_isns_of}
 use Rattle.book_keys.specs.declared.fault.TableFault.{TableFault}
 use Rattle.book_keys.specs.declared.fault.TableFault.TheVariants as fault
-use Rattle.book_keys.specs.Nodes.{tables_of}
+use Rattle.book_keys.specs.Nodes.{document_of, tables_of}
 use Rattle.book_keys.specs.Reading.{Fails}
 use Rattle.book_keys.specs.Rows.{Table}
+use Rattle.book_scope_plan.specs.AdminNames.{KeyFile}
 use Rattle.book_sessions.specs.Sessions.{SessionTable}
 use Rattle.book_sessions.specs.SessionTexts.{has_amiss}
 use Rattle.book_sessions_json.specs.declared.form.TableRequest.{TableRequest}
 use Rattle.book_sessions_json.specs.Forms.{written_as}
-use Rattle.book_sessions_json.specs.TableSeries.{Series, early_text, last_text, series_text}
+use Rattle.book_sessions_json.specs.TableSeries.{Series, early_text, last_text, series_keys, series_text}
 use Rattle.scope_sessions.specs.declared.count.Counted.{Counted}
 use Rattle.scope_sessions.specs.declared.count.CountHalt.TheVariants as count_halt
 use Rattle.scope_sessions.specs.declared.halt.JudgingHalt.{JudgingHalt}
 use Rattle.scope_sessions.specs.declared.halt.JudgingHalt.TheVariants as halt
 use Rattle.scope_sessions.specs.Reading.{Counts, HasCounted, series_of}
-use Rattle.scope_sessions.specs.Halts.{halt_of, halt_of_lines}
+use Rattle.scope_sessions.specs.Halts.{halt_of, halt_of_lines, key_file_by, key_file_in, keys_at}
 use Rattle.scope_sessions.specs.Writing.{Ends, EndsBy, EndsWith, Writes, WritesCounted}
 use Rattle.scope_lines.proofs.Taken.{all_none}
 use Rattle.scope_sessions.proofs.Walk.{breaks_more, ends_none}
 
 module _ (s : Series) (given : List ℕ) (a c o p q : Side) (counted : Counted) (has : HasCounted s given c counted) (before : WasWritten (early_text s (capture_of given).packets) o p) where
-  text_is : written_as s.request.form counted.listener.judging.tables counted.index ≡ last_text s (capture_of given).packets
-  text_is = ap (λ ts. written_as s.request.form ts counted.index) has.tables_are ∙ ap (written_as s.request.form s.judging.tables) has.table_is
+  text_is : written_as s.request.form (keys_at s.document counted.listener.judging.tables) counted.index ≡ last_text s (capture_of given).packets
+  text_is = ap (λ ts. written_as s.request.form (keys_at s.document ts) counted.index) has.tables_are ∙ ap (written_as s.request.form (series_keys s)) has.table_is
 
-  all_written : WasWritten (written_as s.request.form counted.listener.judging.tables counted.index) p q → WasWritten (series_text s (capture_of given).packets) o q
+  all_written : WasWritten (written_as s.request.form (keys_at s.document counted.listener.judging.tables) counted.index) p q → WasWritten (series_text s (capture_of given).packets) o q
   all_written wrote = took_more (early_text s (capture_of given).packets) (last_text s (capture_of given).packets) o p q before (rw text_is at wrote)
 
-  pub ends_written : (result : Result Bool JudgingHalt) → WritesCounted s.request.form counted p q result → Ends s given a c o q result
+  pub ends_written : (result : Result Bool JudgingHalt) → WritesCounted s.request.form s.document counted p q result → Ends s given a c o q result
   ends_written (Ok amiss) wrote = record {
     at_end = rw (wrote.0) at has.whole;
     faultless = sym has.fault_is ∙ wrote.0;
@@ -69,52 +71,62 @@ module _ (s : Series) (given : List ℕ) (a c o p q : Side) (counted : Counted) 
     wrote = took_and_none (early_text s (capture_of given).packets) o p q before wrote;
   }
 
-by_both : (request : TableRequest) (laps : ℕ) (read : Result (List Table) TableFault) (said : Result (List GivenIsns) TextFault) (tables : List Table) (isns : List GivenIsns) (given : List ℕ) (a c o q : Side) (result : Result Bool JudgingHalt)
-    → read ≡ Ok tables → said ≡ Ok isns → Ends (series_of tables laps isns request) given a c o q result → EndsBy request laps read said given a c o q result
-by_both request laps read said tables isns given a c o q result is also ends = rw (is, also) ends
+by_both : (request : TableRequest) (laps : ℕ) (read : Result KeyFile TableFault) (said : Result (List GivenIsns) TextFault) (file : KeyFile) (isns : List GivenIsns) (given : List ℕ) (a c o q : Side) (result : Result Bool JudgingHalt)
+    → read ≡ Ok file → said ≡ Ok isns → Ends (series_of file.document file.tables laps isns request) given a c o q result → EndsBy request laps read said given a c o q result
+by_both request laps read said file isns given a c o q result is also ends = rw (is, also) ends
 
-module _ (request : TableRequest) (laps : ℕ) (keys lines : List ℕ) (tables : List Table) (isns : List GivenIsns) (is : tables_of keys ≡ Ok tables) (also : given_isns_of lines ≡ Ok isns) (given : List ℕ) (a c o q : Side) where
-  by_all : (result : Result Bool JudgingHalt) (now : Side) → Ends (series_of tables laps isns request) given a c o now result → EndsBy request laps (tables_of keys) (given_isns_of lines) given a c o now result
-  by_all result now ends = by_both request laps (tables_of keys) (given_isns_of lines) tables isns given a c o now result is also ends
+module _ (request : TableRequest) (laps : ℕ) (keys lines : List ℕ) (file : KeyFile) (isns : List GivenIsns) (is : key_file_in keys ≡ Ok file) (also : given_isns_of lines ≡ Ok isns) (given : List ℕ) (a c o q : Side) where
+  by_all : (result : Result Bool JudgingHalt) (now : Side) → Ends (series_of file.document file.tables laps isns request) given a c o now result → EndsBy request laps (key_file_in keys) (given_isns_of lines) given a c o now result
+  by_all result now ends = by_both request laps (key_file_in keys) (given_isns_of lines) file isns given a c o now result is also ends
 
   -- what was counted was written, or not
-  pub writes_counted : (counted : Counted) (p : Side) (result : Result Bool JudgingHalt) → Counts (series_of tables laps isns request) given a c o p (Ok counted) → WritesCounted request.form counted p q result → Writes request laps keys lines given a c o q result
+  pub writes_counted : (counted : Counted) (p : Side) (result : Result Bool JudgingHalt) → Counts (series_of file.document file.tables laps isns request) given a c o p (Ok counted) → WritesCounted request.form file.document counted p q result → Writes request laps keys lines given a c o q result
   writes_counted counted p result counts wrote = record {
     gave = counts.gave;
     bytes = counts.bytes;
-    ends = by_all result q (ends_written (series_of tables laps isns request) given a c o p q counted counts.ends.0 counts.ends.1 result wrote);
+    ends = by_all result q (ends_written (series_of file.document file.tables laps isns request) given a c o p q counted counts.ends.0 counts.ends.1 result wrote);
   }
 
-  pub writes_long : Counts (series_of tables laps isns request) given a c o q (Err count_halt.TooLong) → Writes request laps keys lines given a c o q (Err halt.TooLong)
+  pub writes_long : Counts (series_of file.document file.tables laps isns request) given a c o q (Err count_halt.TooLong) → Writes request laps keys lines given a c o q (Err halt.TooLong)
   writes_long counts = record { gave = counts.gave; bytes = counts.bytes; ends = by_all (Err halt.TooLong) q counts.ends }
 
-  pub writes_read : Counts (series_of tables laps isns request) given a c o q (Err count_halt.Read) → Writes request laps keys lines given a c o q (Err halt.Read)
+  pub writes_read : Counts (series_of file.document file.tables laps isns request) given a c o q (Err count_halt.Read) → Writes request laps keys lines given a c o q (Err halt.Read)
   writes_read counts = record { gave = counts.gave; bytes = counts.bytes; ends = by_all (Err halt.Read) q counts.ends }
 
-  pub writes_stuck : Counts (series_of tables laps isns request) given a c o q (Err count_halt.Write) → Writes request laps keys lines given a c o q (Err halt.Write)
+  pub writes_stuck : Counts (series_of file.document file.tables laps isns request) given a c o q (Err count_halt.Write) → Writes request laps keys lines given a c o q (Err halt.Write)
   writes_stuck counts = record { gave = counts.gave; bytes = counts.bytes; ends = by_all (Err halt.Write) q (inl counts.ends) }
 
-  pub writes_memory : Counts (series_of tables laps isns request) given a c o q (Err count_halt.Memory) → Writes request laps keys lines given a c o q (Err halt.Memory)
+  pub writes_memory : Counts (series_of file.document file.tables laps isns request) given a c o q (Err count_halt.Memory) → Writes request laps keys lines given a c o q (Err halt.Memory)
   writes_memory counts = record { gave = counts.gave; bytes = counts.bytes; ends = by_all (Err halt.Memory) q counts.ends }
 
-memory_with : (request : TableRequest) (laps : ℕ) (tables : List Table) (said : Result (List GivenIsns) TextFault) (a o : Side) → EndsWith request laps tables said [] a a o o (Err halt.Memory)
-memory_with request laps tables (Ok isns) a o = (ends_none (series_of tables laps isns request) a o).ends
-memory_with request laps tables (Err why) a o = (refl, took_none o)
+memory_with : (request : TableRequest) (laps : ℕ) (file : KeyFile) (said : Result (List GivenIsns) TextFault) (a o : Side) → EndsWith request laps file said [] a a o o (Err halt.Memory)
+memory_with request laps file (Ok isns) a o = (ends_none (series_of file.document file.tables laps isns request) a o).ends
+memory_with request laps file (Err why) a o = (refl, took_none o)
 
-memory_by : (request : TableRequest) (laps : ℕ) (read : Result (List Table) TableFault) (said : Result (List GivenIsns) TextFault) (a o : Side) → EndsBy request laps read said [] a a o o (Err halt.Memory)
-memory_by request laps (Ok tables) said a o = memory_with request laps tables said a o
+memory_by : (request : TableRequest) (laps : ℕ) (read : Result KeyFile TableFault) (said : Result (List GivenIsns) TextFault) (a o : Side) → EndsBy request laps read said [] a a o o (Err halt.Memory)
+memory_by request laps (Ok file) said a o = memory_with request laps file said a o
 memory_by request laps (Err why) said a o = (refl, took_none o)
 
 -- memory ran out for the key file, or for the given lines
 pub writes_none : (request : TableRequest) (laps : ℕ) (keys lines : List ℕ) (a o : Side) → Writes request laps keys lines [] a a o o (Err halt.Memory)
-writes_none request laps keys lines a o = record { gave = gave_none a; bytes = all_none; ends = memory_by request laps (tables_of keys) (given_isns_of lines) a o }
+writes_none request laps keys lines a o = record { gave = gave_none a; bytes = all_none; ends = memory_by request laps (key_file_in keys) (given_isns_of lines) a o }
 
-keys_by : (request : TableRequest) (laps : ℕ) (read : Result (List Table) TableFault) (said : Result (List GivenIsns) TextFault) (fault : TableFault) (a o : Side) → read ≡ Err fault → EndsBy request laps read said [] a a o o (Err (halt.Keys fault))
+keys_by : (request : TableRequest) (laps : ℕ) (read : Result KeyFile TableFault) (said : Result (List GivenIsns) TextFault) (fault : TableFault) (a o : Side) → read ≡ Err fault → EndsBy request laps read said [] a a o o (Err (halt.Keys fault))
 keys_by request laps read said fault a o is = rw is (refl, (refl, took_none o))
+
+file_is : (read : Result (List Table) TableFault) (document : Option Members) (tables : List Table) (d : Members) → read ≡ Ok tables → document ≡ Some d → key_file_by read document ≡ Ok (keys_at d tables)
+file_is read document tables d is also = rw (is, also) refl
+
+-- the key file is this document and these tables
+pub file_read : (text : List ℕ) (tables : List Table) (d : Members) → tables_of text ≡ Ok tables → document_of text ≡ Some d → key_file_in text ≡ Ok (keys_at d tables)
+file_read text tables d is also = file_is (tables_of text) (document_of text) tables d is also
+
+refused_by : (read : Result (List Table) TableFault) (document : Option Members) (why : TableFault) → read ≡ Err why → key_file_by read document ≡ Err why
+refused_by read document why is = rw is refl
 
 -- the key file is refused
 pub writes_keys : (request : TableRequest) (laps : ℕ) (keys lines : List ℕ) (fault : TableFault) (a o : Side) → tables_of keys ≡ Err fault → Writes request laps keys lines [] a a o o (Err (halt.Keys fault))
-writes_keys request laps keys lines fault a o is = record { gave = gave_none a; bytes = all_none; ends = keys_by request laps (tables_of keys) (given_isns_of lines) fault a o is }
+writes_keys request laps keys lines fault a o is = record { gave = gave_none a; bytes = all_none; ends = keys_by request laps (key_file_in keys) (given_isns_of lines) fault a o (refused_by (tables_of keys) (document_of keys) fault is) }
 
 -- the key file is refused, or memory ran out for it
 pub writes_refused : (request : TableRequest) (laps : ℕ) (keys lines : List ℕ) (why : TableFault) (a o : Side) → Fails why (tables_of keys) → Writes request laps keys lines [] a a o o (Err (halt_of why))
@@ -124,17 +136,17 @@ writes_refused request laps keys lines (fault.Field n r c) a o fails = writes_ke
 writes_refused request laps keys lines (fault.TooMany n) a o fails = writes_keys request laps keys lines (fault.TooMany n) a o fails
 writes_refused request laps keys lines (fault.Overlap n r s) a o fails = writes_keys request laps keys lines (fault.Overlap n r s) a o fails
 
-line_by : (request : TableRequest) (laps : ℕ) (read : Result (List Table) TableFault) (said : Result (List GivenIsns) TextFault) (tables : List Table) (n : ℕ) (kind : LineKind) (a o : Side)
-    → read ≡ Ok tables → said ≡ Err (line_fault.Line n kind) → EndsBy request laps read said [] a a o o (Err (halt.IsnLine n kind))
-line_by request laps read said tables n kind a o is also = rw (is, also) (refl, (refl, took_none o))
+line_by : (request : TableRequest) (laps : ℕ) (read : Result KeyFile TableFault) (said : Result (List GivenIsns) TextFault) (file : KeyFile) (n : ℕ) (kind : LineKind) (a o : Side)
+    → read ≡ Ok file → said ≡ Err (line_fault.Line n kind) → EndsBy request laps read said [] a a o o (Err (halt.IsnLine n kind))
+line_by request laps read said file n kind a o is also = rw (is, also) (refl, (refl, took_none o))
 
-many_by : (request : TableRequest) (laps : ℕ) (read : Result (List Table) TableFault) (said : Result (List GivenIsns) TextFault) (tables : List Table) (a o : Side)
-    → read ≡ Ok tables → said ≡ Err line_fault.TooManyLines → EndsBy request laps read said [] a a o o (Err halt.TooManyIsns)
-many_by request laps read said tables a o is also = rw (is, also) (refl, (refl, took_none o))
+many_by : (request : TableRequest) (laps : ℕ) (read : Result KeyFile TableFault) (said : Result (List GivenIsns) TextFault) (file : KeyFile) (a o : Side)
+    → read ≡ Ok file → said ≡ Err line_fault.TooManyLines → EndsBy request laps read said [] a a o o (Err halt.TooManyIsns)
+many_by request laps read said file a o is also = rw (is, also) (refl, (refl, took_none o))
 
 -- the given lines are refused, or memory ran out for them
-pub writes_unread : (request : TableRequest) (laps : ℕ) (keys lines : List ℕ) (tables : List Table) (why : TextFault) (a o : Side) → tables_of keys ≡ Ok tables → readings.Fails why (given_isns_of lines)
+pub writes_unread : (request : TableRequest) (laps : ℕ) (keys lines : List ℕ) (file : KeyFile) (why : TextFault) (a o : Side) → key_file_in keys ≡ Ok file → readings.Fails why (given_isns_of lines)
     → Writes request laps keys lines [] a a o o (Err (halt_of_lines why))
-writes_unread request laps keys lines tables line_fault.Memory a o is fails = writes_none request laps keys lines a o
-writes_unread request laps keys lines tables line_fault.TooManyLines a o is fails = record { gave = gave_none a; bytes = all_none; ends = many_by request laps (tables_of keys) (given_isns_of lines) tables a o is fails }
-writes_unread request laps keys lines tables (line_fault.Line n kind) a o is fails = record { gave = gave_none a; bytes = all_none; ends = line_by request laps (tables_of keys) (given_isns_of lines) tables n kind a o is fails }
+writes_unread request laps keys lines file line_fault.Memory a o is fails = writes_none request laps keys lines a o
+writes_unread request laps keys lines file line_fault.TooManyLines a o is fails = record { gave = gave_none a; bytes = all_none; ends = many_by request laps (key_file_in keys) (given_isns_of lines) file a o is fails }
+writes_unread request laps keys lines file (line_fault.Line n kind) a o is fails = record { gave = gave_none a; bytes = all_none; ends = line_by request laps (key_file_in keys) (given_isns_of lines) file n kind a o is fails }

@@ -5,6 +5,7 @@ use Rattle.std.proofs.lemmas.List.{append-nil, map-append}
 use Rattle.std.proofs.lemmas.Bool.Decides.{nat_tests}
 use Rattle.std.specs.List.{find, flat_map}
 use Rattle.book_keys.specs.Rows.{Row, Table}
+use Rattle.book_scope_plan.specs.AdminNames.{KeyFile}
 use Rattle.book_sessions.specs.declared.uses.KeyUse.{KeyUse}
 use Rattle.book_sessions.specs.declared.retiring.MayGo.{MayGo}
 use Rattle.book_sessions.specs.KeyLines.{asks_still, last_of}
@@ -63,32 +64,32 @@ pub use_done : (heading u : KeyUse) (out one two three : List ℕ) → one ≡ o
 unfolding use_json
 use_done heading u out one two three a b c = object_of_three out one two three (sender_members heading u) (span_members u) (asked_members u) refl a b c
 
-key_by : (e : Evidence) (tables : List Table) (t : Table) (n : ℕ) (r : Row) (out one two three : List ℕ) → one ≡ out ++ 123 ∷ json_items true (node_members t n) → two ≡ one ++ json_items false (id_members r)
-    → three ≡ two ++ (json_items false (state_members (last_of (carries_row t n r) e.uses) (find (asks_still e t n r) e.live) (may_go_json (may_go e tables t n r))) ++ 125 ∷ [])
-    → three ≡ out ++ key_json e tables t n r
+key_by : (keys : KeyFile) (e : Evidence) (t : Table) (n : ℕ) (r : Row) (out one two three : List ℕ) → one ≡ out ++ 123 ∷ json_items true (node_members keys.document t n) → two ≡ one ++ json_items false (id_members r)
+    → three ≡ two ++ (json_items false (state_members (last_of (carries_row t n r) e.uses) (find (asks_still e t n r) e.live) (may_go_json (may_go e keys.tables t n r))) ++ 125 ∷ [])
+    → three ≡ out ++ key_json keys e t n r
 unfolding key_json
-key_by e tables t n r out one two three a b c = object_of_three out one two three (node_members t n) (id_members r) (state_members (last_of (carries_row t n r) e.uses) (find (asks_still e t n r) e.live) (may_go_json (may_go e tables t n r))) refl a b c
+key_by keys e t n r out one two three a b c = object_of_three out one two three (node_members keys.document t n) (id_members r) (state_members (last_of (carries_row t n r) e.uses) (find (asks_still e t n r) e.live) (may_go_json (may_go e keys.tables t n r))) refl a b c
 
 -- a row, in three parts
-pub key_done : (e : Evidence) (tables : List Table) (t : Table) (n : ℕ) (r : Row) (last asking : Option KeyUse) (told : MayGo) (may out one two three : List ℕ) → last ≡ last_of (carries_row t n r) e.uses → asking ≡ find (asks_still e t n r) e.live
-    → told ≡ may_go e tables t n r → may ≡ may_go_json told → one ≡ out ++ 123 ∷ json_items true (node_members t n) → two ≡ one ++ json_items false (id_members r)
-    → three ≡ two ++ (json_items false (state_members last asking may) ++ 125 ∷ []) → three ≡ out ++ key_json e tables t n r
-key_done e tables t n r last asking told may out one two three last_is asking_is told_is may_is a b c =
-    key_by e tables t n r out one two three a b (rw (may_is, last_is, asking_is, told_is) at c)
+pub key_done : (keys : KeyFile) (e : Evidence) (t : Table) (n : ℕ) (r : Row) (last asking : Option KeyUse) (told : MayGo) (may out one two three : List ℕ) → last ≡ last_of (carries_row t n r) e.uses → asking ≡ find (asks_still e t n r) e.live
+    → told ≡ may_go e keys.tables t n r → may ≡ may_go_json told → one ≡ out ++ 123 ∷ json_items true (node_members keys.document t n) → two ≡ one ++ json_items false (id_members r)
+    → three ≡ two ++ (json_items false (state_members last asking may) ++ 125 ∷ []) → three ≡ out ++ key_json keys e t n r
+key_done keys e t n r last asking told may out one two three last_is asking_is told_is may_is a b c =
+    key_by keys e t n r out one two three a b (rw (may_is, last_is, asking_is, told_is) at c)
 
 -- the rows of one node more
-keys_first : (e : Evidence) (all_tables tables rest : List Table) (t : Table) (before after all : List ℕ) (first still : Bool) → tables ≡ t ∷ rest → before ++ json_items first (flat_map (λ t. rows_json e all_tables t 1 t.rows) tables) ≡ all
-    → ((others : List (List ℕ)) → after ++ json_items still others ≡ before ++ json_items first (rows_json e all_tables t 1 t.rows ++ others)) → after ++ json_items still (flat_map (λ t. rows_json e all_tables t 1 t.rows) rest) ≡ all
-keys_first e all_tables tables rest t before after all first still cut so_far more = more (flat_map (λ t. rows_json e all_tables t 1 t.rows) rest) ∙ (rw cut at so_far)
+keys_first : (keys : KeyFile) (e : Evidence) (tables rest : List Table) (t : Table) (before after all : List ℕ) (first still : Bool) → tables ≡ t ∷ rest → before ++ json_items first (flat_map (λ t. rows_json keys e t 1 t.rows) tables) ≡ all
+    → ((others : List (List ℕ)) → after ++ json_items still others ≡ before ++ json_items first (rows_json keys e t 1 t.rows ++ others)) → after ++ json_items still (flat_map (λ t. rows_json keys e t 1 t.rows) rest) ≡ all
+keys_first keys e tables rest t before after all first still cut so_far more = more (flat_map (λ t. rows_json keys e t 1 t.rows) rest) ∙ (rw cut at so_far)
 
-pub keys_more : (e : Evidence) (i : ℕ) (tables : List Table) (t : Table) (before after all : List ℕ) (first still : Bool) → i < length tables → ((d : Table) → t ≡ get_or tables (i + 1 - 1) d)
-    → before ++ json_items first (flat_map (λ t. rows_json e tables t 1 t.rows) (drop i tables)) ≡ all
-    → ((others : List (List ℕ)) → after ++ json_items still others ≡ before ++ json_items first (rows_json e tables t 1 t.rows ++ others)) → after ++ json_items still (flat_map (λ t. rows_json e tables t 1 t.rows) (drop (i + 1) tables)) ≡ all
-keys_more e i tables t before after all first still low here so_far more =
+pub keys_more : (keys : KeyFile) (e : Evidence) (i : ℕ) (tables : List Table) (t : Table) (before after all : List ℕ) (first still : Bool) → i < length tables → ((d : Table) → t ≡ get_or tables (i + 1 - 1) d)
+    → before ++ json_items first (flat_map (λ t. rows_json keys e t 1 t.rows) (drop i tables)) ≡ all
+    → ((others : List (List ℕ)) → after ++ json_items still others ≡ before ++ json_items first (rows_json keys e t 1 t.rows ++ others)) → after ++ json_items still (flat_map (λ t. rows_json keys e t 1 t.rows) (drop (i + 1) tables)) ≡ all
+keys_more keys e i tables t before after all first still low here so_far more =
     let place : i + 1 - 1 ≡ i = omega arith in
     let at_place : t ≡ get_or tables i t = subst (λ (k : ℕ). t ≡ get_or tables k t) place (here t) in
     let cut : drop i tables ≡ t ∷ drop (i + 1) tables = rw (add-one i) (drop-cons tables i t low ∙ ap (λ x. x ∷ drop (suc i) tables) (sym at_place)) in
-    keys_first e tables (drop i tables) (drop (i + 1) tables) t before after all first still cut so_far more
+    keys_first keys e (drop i tables) (drop (i + 1) tables) t before after all first still cut so_far more
 
 none_behind : {A : Type 0} (xs : List A) (x : A) → none (xs ++ x ∷ []) ≡ false
 none_behind [] x = refl

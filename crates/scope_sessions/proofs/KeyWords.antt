@@ -5,6 +5,7 @@ use Rattle.std.proofs.lemmas.List.{append-nil}
 use Rattle.std.specs.List.{find, flat_map}
 use Rattle.book_keys.specs.Rows.{Row, Table}
 use Rattle.book_lines.specs.Texts.{spaced}
+use Rattle.book_scope_plan.specs.AdminNames.{KeyFile}
 use Rattle.book_sessions.specs.declared.uses.KeyUse.{KeyUse}
 use Rattle.book_sessions.specs.Counts.{all_counted, all_passed}
 use Rattle.book_sessions.specs.declared.retiring.MayGo.{MayGo}
@@ -12,7 +13,7 @@ use Rattle.book_sessions.specs.KeyLines.{asking_texts, asks_still, key_line, key
 use Rattle.book_sessions.specs.Retiring.{Evidence, carries_row, evidence_of, may_go}
 use Rattle.scope_sessions.specs.KeyRows.{found_line}
 use Rattle.book_sessions.specs.Sessions.{SessionTable}
-use Rattle.book_sessions.specs.SessionTexts.{capture_line, passed_line, sessions_lines, sessions_text}
+use Rattle.book_sessions.specs.SessionTexts.{capture_line, passed_line, sessions_lines, sessions_text, unset_line}
 
 spaced_more : (xs ys : List (List ℕ)) → spaced (xs ++ ys) ≡ spaced xs ++ spaced ys
 spaced_more [] ys = refl
@@ -46,37 +47,45 @@ state_line out one two three four five last asking may peers a b c d e =
     append_assoc (l ++ k) m p ∙ (append_assoc l k (m ++ p) ∙ sym (words_are last asking may peers)) in
     e ∙ (ap (λ (x : List ℕ). x ++ 10 ∷ []) (four_is ∙ ap (λ (x : List ℕ). out ++ x) words) ∙ append_assoc out (spaced (last_texts last (asking_texts asking (may ∷ peers)))) (10 ∷ []))
 
-goes_on : (e : Evidence) (all_tables tables rest : List Table) (t : Table) (before after all : List ℕ) → tables ≡ t ∷ rest → before ++ flat_map (λ t. key_lines e all_tables t 1 t.rows) tables ≡ all
-    → after ≡ before ++ key_lines e all_tables t 1 t.rows → after ++ flat_map (λ t. key_lines e all_tables t 1 t.rows) rest ≡ all
-goes_on e all_tables tables rest t before after all cut so_far more =
-    rw more (append_assoc before (key_lines e all_tables t 1 t.rows) (flat_map (λ t. key_lines e all_tables t 1 t.rows) rest) ∙ (rw cut at so_far))
+goes_on : (keys : KeyFile) (e : Evidence) (tables rest : List Table) (t : Table) (before after all : List ℕ) → tables ≡ t ∷ rest → before ++ flat_map (λ t. key_lines keys e t 1 t.rows) tables ≡ all
+    → after ≡ before ++ key_lines keys e t 1 t.rows → after ++ flat_map (λ t. key_lines keys e t 1 t.rows) rest ≡ all
+goes_on keys e tables rest t before after all cut so_far more =
+    rw more (append_assoc before (key_lines keys e t 1 t.rows) (flat_map (λ t. key_lines keys e t 1 t.rows) rest) ∙ (rw cut at so_far))
 
 -- the rows of one more node
-pub one_more_node : (e : Evidence) (i : ℕ) (tables : List Table) (t : Table) (before after all : List ℕ) → i < length tables → ((d : Table) → t ≡ get_or tables (i + 1 - 1) d)
-    → before ++ flat_map (λ t. key_lines e tables t 1 t.rows) (drop i tables) ≡ all → after ≡ before ++ key_lines e tables t 1 t.rows → after ++ flat_map (λ t. key_lines e tables t 1 t.rows) (drop (i + 1) tables) ≡ all
-one_more_node e i tables t before after all low here so_far more =
+pub one_more_node : (keys : KeyFile) (e : Evidence) (i : ℕ) (tables : List Table) (t : Table) (before after all : List ℕ) → i < length tables → ((d : Table) → t ≡ get_or tables (i + 1 - 1) d)
+    → before ++ flat_map (λ t. key_lines keys e t 1 t.rows) (drop i tables) ≡ all → after ≡ before ++ key_lines keys e t 1 t.rows → after ++ flat_map (λ t. key_lines keys e t 1 t.rows) (drop (i + 1) tables) ≡ all
+one_more_node keys e i tables t before after all low here so_far more =
     let place : i + 1 - 1 ≡ i = omega arith in
     let at_place : t ≡ get_or tables i t = subst (λ (k : ℕ). t ≡ get_or tables k t) place (here t) in
     let cut : drop i tables ≡ t ∷ drop (i + 1) tables = rw (add-one i) (drop-cons tables i t low ∙ ap (λ x. x ∷ drop (suc i) tables) (sym at_place)) in
-    goes_on e tables (drop i tables) (drop (i + 1) tables) t before after all cut so_far more
+    goes_on keys e (drop i tables) (drop (i + 1) tables) t before after all cut so_far more
 
 -- the whole text, one part behind another
-pub whole_text : (tables : List Table) (t : SessionTable) (out one two three four : List ℕ) (segments others : ℕ) → segments ≡ all_counted t.uses → others ≡ all_passed t.passed → one ≡ out ++ capture_line segments others t.uses
-    → two ≡ one ++ flat_map passed_line t.passed → three ≡ two ++ sessions_lines t.uses t.sessions → four ≡ three ++ keys_lines (evidence_of t) tables → four ≡ out ++ sessions_text tables t
+pub whole_text : (keys : KeyFile) (t : SessionTable) (out one two mid three four : List ℕ) (segments others : ℕ) → segments ≡ all_counted t.uses → others ≡ all_passed t.passed → one ≡ out ++ capture_line segments others t.uses
+    → two ≡ one ++ flat_map passed_line t.passed → mid ≡ two ++ unset_line t.unset → three ≡ mid ++ sessions_lines t.uses t.sessions → four ≡ three ++ keys_lines keys (evidence_of t) → four ≡ out ++ sessions_text keys t
 unfolding sessions_text
-whole_text tables t out one two three four segments others m n a b c d =
+whole_text keys t out one two mid three four segments others m n a b c d e =
     let l = capture_line (all_counted t.uses) (all_passed t.passed) t.uses in
     let p = flat_map passed_line t.passed in
+    let u = unset_line t.unset in
     let s = sessions_lines t.uses t.sessions in
-    let k = keys_lines (evidence_of t) tables in
+    let k = keys_lines keys (evidence_of t) in
     let first : one ≡ out ++ l = rw (m, n) at a in
-    let third : three ≡ out ++ (l ++ (p ++ s)) = c ∙ (ap (λ (x : List ℕ). x ++ s) (b ∙ ap (λ (x : List ℕ). x ++ p) first) ∙ (append_assoc (out ++ l) p s ∙ append_assoc out l (p ++ s))) in
-    d ∙ (ap (λ (x : List ℕ). x ++ k) third ∙ (append_assoc out (l ++ (p ++ s)) k ∙ ap (λ (x : List ℕ). out ++ x) (append_assoc l (p ++ s) k ∙ ap (λ (x : List ℕ). l ++ x) (append_assoc p s k))))
+    let second : two ≡ out ++ (l ++ p) = b ∙ (ap (λ (x : List ℕ). x ++ p) first ∙ append_assoc out l p) in
+    let between : mid ≡ out ++ (l ++ (p ++ u)) = c ∙ (ap (λ (x : List ℕ). x ++ u) second ∙ (append_assoc out (l ++ p) u ∙ ap (λ (x : List ℕ). out ++ x) (append_assoc l p u))) in
+    let third : three ≡ out ++ (l ++ (p ++ (u ++ s))) =
+    d ∙ (ap (λ (x : List ℕ). x ++ s) between ∙ (append_assoc out (l ++ (p ++ u)) s ∙ ap (λ (x : List ℕ). out ++ x) (append_assoc l (p ++ u) s ∙ ap (λ (x : List ℕ). l ++ x) (append_assoc p u s)))) in
+    e
+    ∙ (ap (λ (x : List ℕ). x ++ k) third
+    ∙ (append_assoc out (l ++ (p ++ (u ++ s))) k
+    ∙ ap (λ (x : List ℕ). out ++ x)
+    (append_assoc l (p ++ (u ++ s)) k ∙ ap (λ (x : List ℕ). l ++ x) (append_assoc p (u ++ s) k ∙ ap (λ (x : List ℕ). p ++ x) (append_assoc u s k)))))
 
 -- the line of a row, by what was found of it, and what stands in the way behind it
-pub key_found : {E : Type 0} (result : Result (Unit {0}) E) (e : Evidence) (tables : List Table) (t : Table) (n : ℕ) (r : Row) (last asking : Option KeyUse) (may : MayGo) (out mid new : List ℕ)
-    → last ≡ last_of (carries_row t n r) e.uses → asking ≡ find (asks_still e t n r) e.live → may ≡ may_go e tables t n r → mid ≡ out ++ found_line t n r last asking may
-    → OnOk result (new ≡ mid ++ obstacle_lines e tables t n r) → OnOk result (new ≡ out ++ key_line e tables t n r)
-key_found (Ok done) e tables t n r last asking may out mid new a b c f h =
-    h ∙ (ap (λ (x : List ℕ). x ++ obstacle_lines e tables t n r) f ∙ (append_assoc out (found_line t n r last asking may) (obstacle_lines e tables t n r) ∙ rw (a, b, c) refl))
-key_found (Err x) e tables t n r last asking may out mid new a b c f h = tt
+pub key_found : {E : Type 0} (result : Result (Unit {0}) E) (keys : KeyFile) (e : Evidence) (t : Table) (n : ℕ) (r : Row) (last asking : Option KeyUse) (may : MayGo) (out mid new : List ℕ)
+    → last ≡ last_of (carries_row t n r) e.uses → asking ≡ find (asks_still e t n r) e.live → may ≡ may_go e keys.tables t n r → mid ≡ out ++ found_line keys.document t n r last asking may
+    → OnOk result (new ≡ mid ++ obstacle_lines e keys.tables t n r) → OnOk result (new ≡ out ++ key_line keys e t n r)
+key_found (Ok done) keys e t n r last asking may out mid new a b c f h =
+    h ∙ (ap (λ (x : List ℕ). x ++ obstacle_lines e keys.tables t n r) f ∙ (append_assoc out (found_line keys.document t n r last asking may) (obstacle_lines e keys.tables t n r) ∙ rw (a, b, c) refl))
+key_found (Err x) keys e t n r last asking may out mid new a b c f h = tt

@@ -22,6 +22,7 @@ use Rattle.scope_lines.proofs.Showing.{listed, one_listed, read_now, shown_none}
 use Rattle.scope_sessions.specs.declared.count.Counted.{Counted}
 use Rattle.scope_sessions.specs.declared.count.CountHalt.TheVariants as halt
 use Rattle.scope_sessions.specs.Counting.{CountsPacket}
+use Rattle.scope_sessions.specs.Halts.{keys_at}
 use Rattle.scope_sessions.specs.Reading.{BreaksEarly, Counts}
 use Rattle.scope_sessions.specs.Texts.{BreaksText}
 
@@ -215,11 +216,11 @@ module _ (s : Series) (before : Reading) (hearing : Hearing) (table : SessionTab
 
     -- what is due in front of the packet that it showed
     due_is : (time seconds : Option ℕ) (p : CapturePacket) → now.packet ≡ Some p → IfSome now.packet (λ p. time ≡ p.frame.time) → seconds ≡ option_map (λ nanoseconds. nanoseconds / 1000000000) time
-        → due_table s.request hearing.judging.tables table since seconds ≡ due_text s shown since (second_seen p)
+        → due_table s.request (keys_at s.document hearing.judging.tables) table since seconds ≡ due_text s shown since (second_seen p)
     due_is time seconds p is time_is seconds_are =
         let here : time ≡ p.frame.time = rw is at time_is in
         let then : seconds ≡ second_seen p = seconds_are ∙ ap (λ (t : Option ℕ). option_map (λ nanoseconds. nanoseconds / 1000000000) t) here in
-        rw (then, between.heard.same) (ap (λ (t : SessionTable). due_table s.request s.judging.tables t since (second_seen p)) (heard_all s hearing table shown between.heard))
+        rw (then, between.heard.same) (ap (λ (t : SessionTable). due_table s.request (keys_at s.document s.judging.tables) t since (second_seen p)) (heard_all s hearing table shown between.heard))
 
     seconds_is : (time seconds : Option ℕ) (p : CapturePacket) → now.packet ≡ Some p → IfSome now.packet (λ p. time ≡ p.frame.time) → seconds ≡ option_map (λ nanoseconds. nanoseconds / 1000000000) time → seconds ≡ second_seen p
     seconds_is time seconds p is time_is seconds_are =
@@ -229,7 +230,7 @@ module _ (s : Series) (before : Reading) (hearing : Hearing) (table : SessionTab
     -- which showed a packet, in front of which what was due was written, and which was counted
     between_packet : (hearing_now : Hearing) (table_now : SessionTable) (time seconds since_now : Option ℕ) (r : Side) (p : CapturePacket) → now.packet ≡ Some p → IfSome now.packet (λ p. time ≡ p.frame.time)
         → seconds ≡ option_map (λ nanoseconds. nanoseconds / 1000000000) time → since_now ≡ counted_since s.request.every since seconds
-        → WasWritten (due_table s.request hearing.judging.tables table since seconds) q r
+        → WasWritten (due_table s.request (keys_at s.document hearing.judging.tables) table since seconds) q r
         → hearing_now.judging ≡ hearing.judging → CountsPacket s.judging between.heard.known hearing_now table table_now p
         → Between s now hearing_now table_now since_now (given ++ next) (shown ++ listed now.packet) a c o r
     between_packet hearing_now table_now time seconds since_now r p is time_is seconds_are since_is wrote same counted =
@@ -240,7 +241,7 @@ module _ (s : Series) (before : Reading) (hearing : Hearing) (table : SessionTab
 
     by_packet : (hearing_now : Hearing) (table_now : SessionTable) (time seconds since_now : Option ℕ) (r : Side) (packet : Option CapturePacket) → now.packet ≡ packet → IsSome packet → IfSome now.packet (λ p. time ≡ p.frame.time)
         → seconds ≡ option_map (λ nanoseconds. nanoseconds / 1000000000) time → since_now ≡ counted_since s.request.every since seconds
-        → WasWritten (due_table s.request hearing.judging.tables table since seconds) q r → hearing_now.judging ≡ hearing.judging
+        → WasWritten (due_table s.request (keys_at s.document hearing.judging.tables) table since seconds) q r → hearing_now.judging ≡ hearing.judging
         → ((p : CapturePacket) → now.packet ≡ Some p → CountsPacket hearing.judging between.heard.known hearing_now table table_now p)
         → Between s now hearing_now table_now since_now (given ++ next) (shown ++ listed now.packet) a c o r
     by_packet hearing_now table_now time seconds since_now r None is some time_is seconds_are since_is wrote same counts = let bad : false ≡ true = some in absurd (cc)
@@ -250,7 +251,7 @@ module _ (s : Series) (before : Reading) (hearing : Hearing) (table : SessionTab
     -- the same, whatever it is
     pub between_counted : (hearing_now : Hearing) (table_now : SessionTable) (time seconds since_now : Option ℕ) (r : Side) → IsSome now.packet → IfSome now.packet (λ p. time ≡ p.frame.time)
         → seconds ≡ option_map (λ nanoseconds. nanoseconds / 1000000000) time → since_now ≡ counted_since s.request.every since seconds
-        → WasWritten (due_table s.request hearing.judging.tables table since seconds) q r → hearing_now.judging ≡ hearing.judging
+        → WasWritten (due_table s.request (keys_at s.document hearing.judging.tables) table since seconds) q r → hearing_now.judging ≡ hearing.judging
         → ((p : CapturePacket) → now.packet ≡ Some p → CountsPacket hearing.judging between.heard.known hearing_now table table_now p)
         → Between s now hearing_now table_now since_now (given ++ next) (shown ++ listed now.packet) a c o r
     between_counted hearing_now table_now time seconds since_now r some time_is seconds_are since_is wrote same counts =
@@ -258,7 +259,7 @@ module _ (s : Series) (before : Reading) (hearing : Hearing) (table : SessionTab
 
     -- memory ran out for it, behind what was due
     memory_behind : (time seconds : Option ℕ) (r : Side) (packet : Option CapturePacket) → now.packet ≡ packet → IsSome packet → IfSome now.packet (λ p. time ≡ p.frame.time)
-        → seconds ≡ option_map (λ nanoseconds. nanoseconds / 1000000000) time → WasWritten (due_table s.request hearing.judging.tables table since seconds) q r
+        → seconds ≡ option_map (λ nanoseconds. nanoseconds / 1000000000) time → WasWritten (due_table s.request (keys_at s.document hearing.judging.tables) table since seconds) q r
         → WasWritten (early_text s (shown ++ listed now.packet)) o r
     memory_behind time seconds r None is some time_is seconds_are wrote = let bad : false ≡ true = some in absurd (cc)
     memory_behind time seconds r (Some p) is some time_is seconds_are wrote =
@@ -266,7 +267,7 @@ module _ (s : Series) (before : Reading) (hearing : Hearing) (table : SessionTab
         (written_one s shown since o q r now.packet p is between.writes (rw (due_is time seconds p is time_is seconds_are) at wrote))
 
     pub ends_memory : (time seconds : Option ℕ) (r : Side) → IsSome now.packet → IfSome now.packet (λ p. time ≡ p.frame.time)
-        → seconds ≡ option_map (λ nanoseconds. nanoseconds / 1000000000) time → WasWritten (due_table s.request hearing.judging.tables table since seconds) q r
+        → seconds ≡ option_map (λ nanoseconds. nanoseconds / 1000000000) time → WasWritten (due_table s.request (keys_at s.document hearing.judging.tables) table since seconds) q r
         → Counts s (given ++ next) a c o r (Err halt.Memory)
     ends_memory time seconds r some time_is seconds_are wrote = record {
       gave = gave_all between.taken gave;
@@ -296,7 +297,7 @@ module _ (s : Series) (before : Reading) (hearing : Hearing) (table : SessionTab
 
     -- what was due wasn't written
     breaks_by : (time seconds : Option ℕ) (r : Side) (packet : Option CapturePacket) → now.packet ≡ packet → IsSome packet → IfSome now.packet (λ p. time ≡ p.frame.time)
-        → seconds ≡ option_map (λ nanoseconds. nanoseconds / 1000000000) time → BreaksText [] (due_table s.request hearing.judging.tables table since seconds) q r
+        → seconds ≡ option_map (λ nanoseconds. nanoseconds / 1000000000) time → BreaksText [] (due_table s.request (keys_at s.document hearing.judging.tables) table since seconds) q r
         → BreaksEarly s (given ++ next) o r
     breaks_by time seconds r None is some time_is seconds_are breaks = let bad : false ≡ true = some in absurd (cc)
     breaks_by time seconds r (Some p) is some time_is seconds_are breaks = record {
@@ -308,7 +309,7 @@ module _ (s : Series) (before : Reading) (hearing : Hearing) (table : SessionTab
     }
 
     pub ends_stuck : (time seconds : Option ℕ) (r : Side) → IsSome now.packet → IfSome now.packet (λ p. time ≡ p.frame.time)
-        → seconds ≡ option_map (λ nanoseconds. nanoseconds / 1000000000) time → BreaksText [] (due_table s.request hearing.judging.tables table since seconds) q r
+        → seconds ≡ option_map (λ nanoseconds. nanoseconds / 1000000000) time → BreaksText [] (due_table s.request (keys_at s.document hearing.judging.tables) table since seconds) q r
         → Counts s (given ++ next) a c o r (Err halt.Write)
     ends_stuck time seconds r some time_is seconds_are breaks = record {
       gave = gave_all between.taken gave;

@@ -1,6 +1,7 @@
 -- What is read of a capture and counted of it (own). Its top is `Counts`.
 use Rattle.std.specs.Prelude.{◌≡◌, ℕ, ◌<◌, ◌≤◌, List, [], ◌∷◌, ◌++◌, length, Option, Some, None, Result, Ok, Err}
 use Rattle.std.specs.List.{All}
+use Rattle.toml.specs.Data.{Members}
 use Rattle.ao_base.specs.Outside.{Side, Gave, WasWritten, Rose, IsAtEnd, told}
 use Rattle.book_captures.specs.declared.capture_parts.CaptureFault.{CaptureFault}
 use Rattle.book_captures.specs.Captures.{CapturePacket, capture_of}
@@ -25,14 +26,14 @@ abbrev pub IsWhole : List ℕ → Side → Option CaptureFault → Type 0
 IsWhole given source_now None = IsAtEnd source_now
 IsWhole given source_now (Some fault) = capture_of (given ++ told source_now.bytes) ≡ capture_of given
 
--- the tables that are asked for of a capture
-abbrev pub series_behind : Judging → List GivenIsns → TableRequest → Series
-series_behind judging given request =
-    record { judging = judging; given = given; request = request }
+-- the tables that are asked for of a capture, by the key file that is this document
+abbrev pub series_behind : Members → Judging → List GivenIsns → TableRequest → Series
+series_behind document judging given request =
+    record { document = document; judging = judging; given = given; request = request }
 
 -- the same, of tables and laps
-abbrev pub series_of : List Table → (laps : ℕ) → List GivenIsns → TableRequest → Series
-series_of tables laps = series_behind (record { tables = tables; laps = laps })
+abbrev pub series_of : Members → List Table → (laps : ℕ) → List GivenIsns → TableRequest → Series
+series_of document tables laps = series_behind document (record { tables = tables; laps = laps })
 
 -- what was counted, where that ended so
 abbrev pub counted_with : Hearing → SessionTable → Result (Option CaptureFault) CountHalt →

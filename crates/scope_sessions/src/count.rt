@@ -1,5 +1,6 @@
 //! The packets of a capture, counted one after another.
 ghost use Rattle.std.specs.Prelude.{◌≡◌, ◌≤◌, ◌<◌, ℕ, List, IfOk, IsSome, Ok, OnOk, Some, length};
+ghost use Rattle.toml.specs.View.{table_view};
 ghost use Rattle.ao_base.specs.Outside.{Side};
 ghost use Rattle.book_captures.specs.Captures.{CapturePacket};
 ghost use Rattle.book_sessions.specs.Listening.{Listening, listening_behind};
@@ -117,6 +118,7 @@ fn count_all<L: Ledger, I: Source, O: Sink>(
     index: &mut SessionIndex,
     alloc: Global,
     steps: &mut Steps<L>,
+    document: &toml::Table,
     request: TableRequest,
     input: &mut I,
     out: &mut O,
@@ -124,7 +126,7 @@ fn count_all<L: Ledger, I: Source, O: Sink>(
     requires reader { reader.old ≡ new_reading }
     requires index { index.old ≡ no_sessions }
     ensures { (isns : List GivenIsns) → Knows listener.old (listening_behind isns) → (given : List ℕ) ×
-        Counts (series_behind listener.old.judging isns request) given (I.side input.old) (I.side input.new) (O.side out.old) (O.side out.new) (counted_with listener.new index.new result) }
+        Counts (series_behind (table_view document.now) listener.old.judging isns request) given (I.side input.old) (I.side input.new) (O.side out.old) (O.side out.new) (counted_with listener.new index.new result) }
 {
     let mut since = None;
     'parts: loop {
@@ -137,7 +139,7 @@ fn count_all<L: Ledger, I: Source, O: Sink>(
             Err(CaptureHalt::Broken(fault)) => return Ok(Some(fault)),
         }
         let now = second_of(reader.time());
-        match write_due(alloc, request, listener.tables(), index, since, now, out) {
+        match write_due(alloc, request, document, listener.tables(), index, since, now, out) {
             Ok(()) => {}
             Err(TextHalt::Write) => return Err(CountHalt::Write),
             Err(TextHalt::Memory) => return Err(CountHalt::Memory),
@@ -157,6 +159,7 @@ fn count_counted<L: Ledger, I: Source, O: Sink>(
     tables: Tables,
     laps: u32,
     isns: &[GivenIsns],
+    document: &toml::Table,
     request: TableRequest,
     input: &mut I,
     out: &mut O,
@@ -165,7 +168,7 @@ fn count_counted<L: Ledger, I: Source, O: Sink>(
     requires name { blank.name ≡ L.name }
     requires parts { blank.parts ≡ L.parts }
     requires part { 0 < blank.parts }
-    ensures { (given : List ℕ) × Counts (series_of tables laps isns.now request) given (I.side input.old) (I.side input.new) (O.side out.old) (O.side out.new) result }
+    ensures { (given : List ℕ) × Counts (series_of (table_view document.now) tables laps isns.now request) given (I.side input.old) (I.side input.new) (O.side out.old) (O.side out.new) result }
 {
     let mut steps = Steps::<L>::new(blank);
     let mut reader = match CaptureReader::new(alloc) {
@@ -183,6 +186,7 @@ fn count_counted<L: Ledger, I: Source, O: Sink>(
         &mut index,
         alloc,
         &mut steps,
+        document,
         request,
         input,
         out,
@@ -204,17 +208,19 @@ pub(crate) fn count_capture<I: Source, O: Sink>(
     tables: Tables,
     laps: u32,
     isns: &[GivenIsns],
+    document: &toml::Table,
     request: TableRequest,
     input: &mut I,
     out: &mut O,
 ) -> Result<Counted, CountHalt>
-    ensures { (given : List ℕ) × Counts (series_of tables laps isns.now request) given (I.side input.old) (I.side input.new) (O.side out.old) (O.side out.new) result }
+    ensures { (given : List ℕ) × Counts (series_of (table_view document.now) tables laps isns.now request) given (I.side input.old) (I.side input.new) (O.side out.old) (O.side out.new) result }
 {
     count_counted::<Brand, I, O>(
         alloc,
         tables,
         laps,
         isns,
+        document,
         request,
         input,
         out,

@@ -1,8 +1,10 @@
 //! When a table is due in front of a packet, and what is written then.
 ghost use Rattle.std.specs.Prelude.{◌≡◌, ◌++◌, ◌+◌, ◌/◌, OnOk, nat_le, option_map};
+ghost use Rattle.toml.specs.View.{table_view};
 ghost use Rattle.ao_base.specs.Outside.{Side};
 ghost use Rattle.book_sessions_json.specs.Forms.{written_as};
 ghost use Rattle.book_sessions_json.specs.TableSeries.{counted_since, due_table, is_table_due, time_line};
+ghost use Rattle.scope_sessions.specs.Halts.{keys_at};
 ghost use Rattle.scope_sessions.specs.Texts.{WritesText};
 
 use crate::json_table::push_json;
@@ -74,14 +76,15 @@ pub(crate) fn push_form(
     alloc: Global,
     form: TableForm,
     text: &mut Vec<u8>,
+    document: &toml::Table,
     tables: &Tables,
     index: &SessionIndex,
 ) -> Result<(), AllocError>
-    ensures { OnOk result (text.new.items ≡ text.old.items ++ written_as form tables.now index.now) }
+    ensures { OnOk result (text.new.items ≡ text.old.items ++ written_as form (keys_at (table_view document.now) tables.now) index.now) }
 {
     match form {
-        TableForm::Lines => push_table(alloc, text, tables, index),
-        TableForm::Json => push_json(alloc, text, tables, index),
+        TableForm::Lines => push_table(alloc, text, document, tables, index),
+        TableForm::Json => push_json(alloc, text, document, tables, index),
     }
 }
 
@@ -107,13 +110,14 @@ fn push_due(
     alloc: Global,
     form: TableForm,
     text: &mut Vec<u8>,
+    document: &toml::Table,
     tables: &Tables,
     index: &SessionIndex,
     now: Option<u64>,
 ) -> Result<(), AllocError>
-    ensures { OnOk result (text.new.items ≡ text.old.items ++ (written_as form tables.now index.now ++ time_line form now)) }
+    ensures { OnOk result (text.new.items ≡ text.old.items ++ (written_as form (keys_at (table_view document.now) tables.now) index.now ++ time_line form now)) }
 {
-    push_form(alloc, form, text, tables, index)?;
+    push_form(alloc, form, text, document, tables, index)?;
     push_end(text, form, now)
 }
 
@@ -131,15 +135,16 @@ fn write_text<O: Sink>(text: &[u8], out: &mut O) -> Result<(), TextHalt>
 fn write_table<O: Sink>(
     alloc: Global,
     form: TableForm,
+    document: &toml::Table,
     tables: &Tables,
     index: &SessionIndex,
     now: Option<u64>,
     out: &mut O,
 ) -> Result<(), TextHalt>
-    ensures { WritesText (written_as form tables.now index.now ++ time_line form now) (O.side out.old) (O.side out.new) result }
+    ensures { WritesText (written_as form (keys_at (table_view document.now) tables.now) index.now ++ time_line form now) (O.side out.old) (O.side out.new) result }
 {
     let mut text = Vec::new(alloc);
-    match push_due(alloc, form, &mut text, tables, index, now) {
+    match push_due(alloc, form, &mut text, document, tables, index, now) {
         Ok(()) => write_text(text.as_slice(), out),
         Err(_) => Err(TextHalt::Memory),
     }
@@ -149,16 +154,17 @@ fn write_table<O: Sink>(
 pub(crate) fn write_due<O: Sink>(
     alloc: Global,
     request: TableRequest,
+    document: &toml::Table,
     tables: &Tables,
     index: &SessionIndex,
     since: Option<u64>,
     now: Option<u64>,
     out: &mut O,
 ) -> Result<(), TextHalt>
-    ensures { WritesText (due_table request tables.now index.now since now) (O.side out.old) (O.side out.new) result }
+    ensures { WritesText (due_table request (keys_at (table_view document.now) tables.now) index.now since now) (O.side out.old) (O.side out.new) result }
 {
     if is_due(request.every, since, now) {
-        write_table(alloc, request.form, tables, index, now, out)
+        write_table(alloc, request.form, document, tables, index, now, out)
     } else {
         Ok(())
     }

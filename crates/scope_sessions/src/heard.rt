@@ -7,6 +7,7 @@ ghost use Rattle.book_sessions.specs.Sessions.{bits_of, seen_segment};
 ghost use Rattle.capture_listener.specs.Listeners.{Knows};
 ghost use Rattle.scope_sessions.specs.Counting.{IsHeard, IsSeen, stored_at};
 
+use crate::protections::protection_of;
 use ao_base::Steps;
 use book_sessions::{PassedOver, SeenBits, SeenSegment};
 use capture_listener::{HeardSegment, Listener, key_ids, told_fault};
@@ -34,6 +35,7 @@ fn seen_segment(packet: u64, time: u64, datagram: &Datagram<'_>, heard: HeardSeg
         source: datagram.source(),
         destination: datagram.destination(),
         ids: key_ids(datagram),
+        protection: protection_of(datagram),
         bits: bits_of(datagram),
         outcome: heard.outcome,
         pass: heard.pass,

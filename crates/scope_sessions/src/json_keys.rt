@@ -1,7 +1,9 @@
 //! The keys of a key file in JSON.
-ghost use Rattle.std.specs.Prelude.{◌≡◌, ◌++◌, ◌∷◌, [], ℕ, IfOk, List, OnOk, Some, codes, decimal, false, true};
+ghost use Rattle.std.specs.Prelude.{◌≡◌, ◌++◌, ◌∷◌, [], ℕ, IfOk, List, OnOk, Some, codes, decimal, false, option_map, true};
+ghost use Rattle.toml.specs.View.{table_view};
 ghost use Rattle.book_sessions_json.specs.Json.{json_items};
-ghost use Rattle.book_sessions_json.specs.SessionJson.{asked_for_json, key_json, keys_json, last_used_json, may_go_json, rows_json};
+ghost use Rattle.book_sessions_json.specs.SessionJson.{asked_for_json, key_json, keys_json, last_used_json, may_go_json, name_json, rows_json};
+ghost use Rattle.scope_sessions.specs.Halts.{keys_at};
 ghost use Rattle.scope_sessions.specs.JsonParts.{from_members, id_members, node_members, seen_members, state_members};
 
 use crate::json_values::{push_address_text, push_comma, push_name, push_string, push_time};
@@ -9,6 +11,7 @@ use crate::users::{first_asking, last_carrying};
 use ao_base::push_decimal;
 use book_sessions::{KeyUse, MayGo};
 use key_table::{Row, Table, Tables};
+use plan_texts::admin_name;
 use scope_retiring::{Evidence, may_go};
 use std::alloc::{AllocError, Global};
 
@@ -80,14 +83,31 @@ fn may_go_word(may: MayGo) -> &'static [u8]
     }
 }
 
-// Puts the first members of a row behind `out`: its node and its number.
-fn push_node(out: &mut Vec<u8>, table: &Table, number: u64) -> Result<(), AllocError>
-    ensures { OnOk result (out.new.items ≡ out.old.items ++ 123 ∷ json_items true (node_members table.now number)) }
+// Puts what the operator calls a row behind `out`, or that it isn't named.
+fn push_admin(out: &mut Vec<u8>, name: Option<&str>) -> Result<(), AllocError>
+    ensures { OnOk result (out.new.items ≡ out.old.items ++ name_json (option_map (λ s. s.now) name.entry)) }
+{
+    match name {
+        None => out.extend_from_slice(b"null"),
+        Some(text) => push_string(out, text.as_bytes()),
+    }
+}
+
+// Puts the first members of a row behind `out`: its node, its number, and what the operator calls it.
+fn push_node(
+    out: &mut Vec<u8>,
+    document: &toml::Table,
+    table: &Table,
+    number: u8,
+) -> Result<(), AllocError>
+    ensures { OnOk result (out.new.items ≡ out.old.items ++ 123 ∷ json_items true (node_members (table_view document.now) table.now number)) }
 {
     push_name(out, b'{', b"node")?;
     push_string(out, table.name())?;
     push_name(out, b',', b"row")?;
-    push_decimal(out, number)
+    push_decimal(out, u64::from(number))?;
+    push_name(out, b',', b"name")?;
+    push_admin(out, admin_name(document, table.name(), number))
 }
 
 // Puts the next members of a row behind `out`: its ids.
@@ -123,18 +143,20 @@ fn push_state(
 fn push_key(
     alloc: Global,
     out: &mut Vec<u8>,
+    document: &toml::Table,
     evidence: &Evidence,
     tables: &Tables,
     table: &Table,
-    number: u64,
+    row_number: u8,
     row: &Row,
 ) -> Result<(), AllocError>
-    ensures { OnOk result (out.new.items ≡ out.old.items ++ key_json evidence.now tables.now table.now number row.now) }
+    ensures { OnOk result (out.new.items ≡ out.old.items ++ key_json (keys_at (table_view document.now) tables.now) evidence.now table.now row_number row.now) }
 {
+    let number = u64::from(row_number);
     let last = last_carrying(evidence.uses(), table, number, row);
     let asked = first_asking(evidence, table, number, row);
     let may = may_go_word(may_go(evidence, tables, table, number, row));
-    push_node(out, table, number)?;
+    push_node(out, document, table, row_number)?;
     push_ids(out, row)?;
     push_state(alloc, out, last, asked, may)?;
     Ok(())
@@ -146,18 +168,21 @@ fn push_rows(
     alloc: Global,
     out: &mut Vec<u8>,
     first: bool,
+    document: &toml::Table,
     evidence: &Evidence,
     tables: &Tables,
     table: &Table,
-    rows: &[Row],
 ) -> Result<bool, AllocError>
     ensures { (others : List (List ℕ)) → IfOk result (λ still. out.new.items ++ json_items still others
-        ≡ out.old.items ++ json_items first (rows_json evidence.now tables.now table.now 1 rows.now ++ others)) }
+        ≡ out.old.items ++ json_items first (rows_json (keys_at (table_view document.now) tables.now) evidence.now table.now 1 table.now.rows ++ others)) }
 {
+    // It tells that a table has at most 64 rows, so that each number fits.
+    let _count = table.rows();
+    let rows = table.entries();
     let mut still = first;
     for (i, row) in rows.iter().enumerate() {
         push_comma(out, still)?;
-        push_key(alloc, out, evidence, tables, table, i as u64 + 1, row)?;
+        push_key(alloc, out, document, evidence, tables, table, (i + 1) as u8, row)?;
         still = false;
     }
     Ok(still)
@@ -167,15 +192,16 @@ fn push_rows(
 pub(crate) fn push_keys(
     alloc: Global,
     out: &mut Vec<u8>,
+    document: &toml::Table,
     evidence: &Evidence,
     tables: &Tables,
 ) -> Result<(), AllocError>
-    ensures { OnOk result (out.new.items ≡ out.old.items ++ json_items true (keys_json evidence.now tables.now)) }
+    ensures { OnOk result (out.new.items ≡ out.old.items ++ json_items true (keys_json (keys_at (table_view document.now) tables.now) evidence.now)) }
 {
     let mut first = true;
     for i in 0..tables.nodes() {
         let table = tables.node(i + 1);
-        let still = push_rows(alloc, out, first, evidence, tables, table, table.entries())?;
+        let still = push_rows(alloc, out, first, document, evidence, tables, table)?;
         first = still;
     }
     Ok(())

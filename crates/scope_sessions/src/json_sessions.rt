@@ -4,7 +4,7 @@ ghost use Rattle.std.specs.List.{find, list_any};
 ghost use Rattle.book_sessions.specs.declared.uses.KeyUse.{KeyUse as Use};
 ghost use Rattle.book_sessions.specs.SessionTexts.{is_of_session, opens_session};
 ghost use Rattle.book_sessions_json.specs.Json.{json_array, json_bool, json_items, json_member};
-ghost use Rattle.book_sessions_json.specs.SessionJson.{end_json, heading_json, numbers_to, sender_place, session_json, use_json, uses_json};
+ghost use Rattle.book_sessions_json.specs.SessionJson.{end_json, heading_json, numbers_to, protection_word, sender_place, session_json, use_json, uses_json};
 ghost use Rattle.scope_sessions.specs.JsonParts.{asked_members, sender_members, span_members};
 
 use crate::json_values::{
@@ -13,7 +13,7 @@ use crate::json_values::{
 use crate::session_texts::{first_of, is_of_session, is_opened};
 use ao_base::{is_same_socket, push_decimal};
 use book_base::Socket;
-use book_sessions::KeyUse;
+use book_sessions::{KeyUse, Protection};
 use session_index::{SessionIndex, outcome_word};
 use std::alloc::{AllocError, Global};
 
@@ -50,8 +50,19 @@ fn sender_place(heading: &KeyUse, one: &KeyUse) -> u64
     }
 }
 
-// Puts the first members of segments behind `out`: who sent them, under which KeyID, and what is said of
-// them.
+fn protection_word(protection: Protection) -> &'static [u8]
+    ensures { result.now ≡ protection_word protection }
+{
+    match protection {
+        Protection::Ao => b"ao",
+        Protection::Md5 => b"md5",
+        Protection::Plain => b"plain",
+        Protection::Unclear => b"unclear",
+    }
+}
+
+// Puts the first members of segments behind `out`: who sent them, under which KeyID, and how they are
+// protected.
 fn push_sender(out: &mut Vec<u8>, heading: &KeyUse, one: &KeyUse) -> Result<(), AllocError>
     ensures { OnOk result (out.new.items ≡ out.old.items ++ 123 ∷ json_items true (sender_members heading.now one.now)) }
 {
@@ -59,26 +70,30 @@ fn push_sender(out: &mut Vec<u8>, heading: &KeyUse, one: &KeyUse) -> Result<(), 
     push_decimal(out, sender_place(heading, one))?;
     push_name(out, b',', b"key_id")?;
     push_id(out, one.key_id)?;
-    push_name(out, b',', b"outcome")?;
-    push_string(out, outcome_word(one.outcome))
+    push_name(out, b',', b"protection")?;
+    push_string(out, protection_word(one.protection))
 }
 
-// Puts the next members of segments behind `out`: how many they are, and when they were seen.
+// Puts the next members of segments behind `out`: what is said of them, how many they are, and when the first
+// was seen.
 fn push_span(alloc: Global, out: &mut Vec<u8>, one: &KeyUse) -> Result<(), AllocError>
     ensures { OnOk result (out.new.items ≡ out.old.items ++ json_items false (span_members one.now)) }
 {
+    push_name(out, b',', b"outcome")?;
+    push_string(out, outcome_word(one.outcome))?;
     push_name(out, b',', b"segments")?;
     push_decimal(out, one.segments)?;
     push_name(out, b',', b"first")?;
-    push_time(alloc, out, one.first)?;
-    push_name(out, b',', b"last")?;
-    push_time(alloc, out, one.last)
+    push_time(alloc, out, one.first)
 }
 
-// Puts the last members of segments behind `out`: what they ask for, and the last packet.
-fn push_asked(out: &mut Vec<u8>, one: &KeyUse) -> Result<(), AllocError>
+// Puts the last members of segments behind `out`: when the last was seen, what they ask for, and the last
+// packet.
+fn push_asked(alloc: Global, out: &mut Vec<u8>, one: &KeyUse) -> Result<(), AllocError>
     ensures { OnOk result (out.new.items ≡ out.old.items ++ (json_items false (asked_members one.now) ++ 125 ∷ [])) }
 {
+    push_name(out, b',', b"last")?;
+    push_time(alloc, out, one.last)?;
     push_name(out, b',', b"asks")?;
     push_id(out, one.asked)?;
     push_name(out, b',', b"packet")?;
@@ -97,7 +112,7 @@ fn push_use(
 {
     push_sender(out, heading, one)?;
     push_span(alloc, out, one)?;
-    push_asked(out, one)?;
+    push_asked(alloc, out, one)?;
     Ok(())
 }
 

@@ -1,9 +1,11 @@
 //! The whole table in JSON.
 ghost use Rattle.std.specs.Prelude.{◌≡◌, ◌++◌, ◌∷◌, [], OnOk, codes, map};
+ghost use Rattle.toml.specs.View.{table_view};
 ghost use Rattle.book_sessions.specs.Retiring.{evidence_of};
 ghost use Rattle.book_sessions.specs.SessionTexts.{has_amiss};
 ghost use Rattle.book_sessions_json.specs.Json.{json_array, json_bool, json_member};
 ghost use Rattle.book_sessions_json.specs.SessionJson.{keys_json, numbers_to, packets_json, session_json, sessions_json};
+ghost use Rattle.scope_sessions.specs.Halts.{keys_at};
 
 use crate::json_keys::push_keys;
 use crate::json_packets::push_packets;
@@ -34,15 +36,16 @@ fn push_all_sessions(
 fn push_all_keys(
     alloc: Global,
     out: &mut Vec<u8>,
+    document: &toml::Table,
     index: &SessionIndex,
     tables: &Tables,
 ) -> Result<(), AllocError>
-    ensures { OnOk result (out.new.items ≡ out.old.items ++ (44 ∷ json_member (codes "keys") (json_array (keys_json (evidence_of index.now) tables.now)))) }
+    ensures { OnOk result (out.new.items ≡ out.old.items ++ (44 ∷ json_member (codes "keys") (json_array (keys_json (keys_at (table_view document.now) tables.now) (evidence_of index.now))))) }
 {
     let evidence = Evidence::of(alloc, index)?;
     push_name(out, b',', b"keys")?;
     out.push(b'[')?;
-    push_keys(alloc, out, &evidence, tables)?;
+    push_keys(alloc, out, document, &evidence, tables)?;
     out.push(b']')?;
     Ok(())
 }
@@ -62,14 +65,15 @@ fn push_amiss(out: &mut Vec<u8>, amiss: bool) -> Result<(), AllocError>
 pub(crate) fn push_json(
     alloc: Global,
     out: &mut Vec<u8>,
+    document: &toml::Table,
     tables: &Tables,
     index: &SessionIndex,
 ) -> Result<(), AllocError>
-    ensures { OnOk result (out.new.items ≡ out.old.items ++ sessions_json tables.now index.now) }
+    ensures { OnOk result (out.new.items ≡ out.old.items ++ sessions_json (keys_at (table_view document.now) tables.now) index.now) }
 {
     push_name(out, b'{', b"packets")?;
     push_packets(alloc, out, index)?;
     push_all_sessions(alloc, out, index)?;
-    push_all_keys(alloc, out, index, tables)?;
+    push_all_keys(alloc, out, document, index, tables)?;
     push_amiss(out, has_amiss(index))
 }

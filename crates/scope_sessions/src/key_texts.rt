@@ -1,11 +1,13 @@
 //! The lines of the keys of a key file.
 ghost use Rattle.std.specs.Prelude.{◌≡◌, ◌++◌, ◌∷◌, [], OnOk, Some, codes, decimal};
 ghost use Rattle.std.specs.List.{list_any};
+ghost use Rattle.toml.specs.View.{table_view};
 ghost use Rattle.book_lines.specs.Texts.{spaced};
 ghost use Rattle.book_scope_texts.specs.Addresses.{usual_address_text};
 ghost use Rattle.book_scope_texts.specs.Instants.{instant_text};
+ghost use Rattle.scope_sessions.specs.Halts.{keys_at};
 ghost use Rattle.scope_sessions.specs.KeyRows.{found_line};
-ghost use Rattle.book_sessions.specs.KeyLines.{asking_texts, is_any, key_line, key_lines, keys_lines, last_texts, may_go_text, seen_peers_text};
+ghost use Rattle.book_sessions.specs.KeyLines.{asking_texts, called_row, is_any, key_line, key_lines, keys_lines, last_texts, may_go_text, seen_peers_text};
 
 use crate::obstacles::push_obstacles;
 use crate::session_texts::{push_host, push_time};
@@ -13,6 +15,7 @@ use crate::users::{first_asking, last_carrying};
 use book_base::Address;
 use book_sessions::{KeyUse, MayGo};
 use key_table::{Row, Table, Tables};
+use plan_texts::{admin_name, push_admin};
 use scope_retiring::{Evidence, may_go};
 use std::alloc::AllocError;
 use text_lines::{push_field, push_newline, push_number, push_text};
@@ -99,17 +102,45 @@ fn push_peers(out: &mut Vec<u8>, any: bool) -> Result<(), AllocError>
     }
 }
 
-// Puts the front of the line of a row behind `out`: its number, its node and its ids.
-fn push_row(out: &mut Vec<u8>, table: &Table, number: u64, row: &Row) -> Result<(), AllocError>
-    ensures { OnOk result (out.new.items ≡ out.old.items ++ (codes "key" ++ spaced (decimal number ∷ codes "of" ∷ table.now.name
+// Puts a space behind `out`, the name of a node, and what the document calls its row of this number.
+fn push_called(
+    out: &mut Vec<u8>,
+    document: &toml::Table,
+    table: &Table,
+    number: u8,
+) -> Result<(), AllocError>
+    ensures { OnOk result (out.new.items ≡ out.old.items ++ 32 ∷ called_row (table_view document.now) table.now number) }
+{
+    push_text(out, table.name())?;
+    push_admin(out, admin_name(document, table.name(), number))
+}
+
+// Puts the ids of a row behind `out`.
+fn push_ids(out: &mut Vec<u8>, row: &Row) -> Result<(), AllocError>
+    ensures { OnOk result (out.new.items ≡ out.old.items
+        ++ spaced (codes "send-id" ∷ decimal row.now.send_id ∷ codes "recv-id" ∷ decimal row.now.recv_id ∷ [])) }
+{
+    push_field(out, b"send-id", u64::from(row.send_id()))?;
+    push_field(out, b"recv-id", u64::from(row.recv_id()))
+}
+
+// Puts the front of the line of a row behind `out`: its number, its node, its name and its ids.
+fn push_row(
+    out: &mut Vec<u8>,
+    document: &toml::Table,
+    table: &Table,
+    number: u8,
+    row: &Row,
+) -> Result<(), AllocError>
+    ensures { OnOk result (out.new.items ≡ out.old.items ++ (codes "key" ++ spaced (decimal number ∷ codes "of"
+        ∷ called_row (table_view document.now) table.now number
         ∷ codes "send-id" ∷ decimal row.now.send_id ∷ codes "recv-id" ∷ decimal row.now.recv_id ∷ []))) }
 {
     out.extend_from_slice(b"key")?;
-    push_number(out, number)?;
+    push_number(out, u64::from(number))?;
     push_text(out, b"of")?;
-    push_text(out, table.name())?;
-    push_field(out, b"send-id", u64::from(row.send_id()))?;
-    push_field(out, b"recv-id", u64::from(row.recv_id()))
+    push_called(out, document, table, number)?;
+    push_ids(out, row)
 }
 
 // Puts the end of the line of a row behind `out`: who used it last, who asks for it, whether it may go, and
@@ -134,47 +165,53 @@ fn push_state(
 // Puts the line of a row behind `out`, of which this was found.
 fn push_found(
     out: &mut Vec<u8>,
+    document: &toml::Table,
     table: &Table,
-    number: u64,
+    number: u8,
     row: &Row,
     last: Option<KeyUse>,
     asking: Option<KeyUse>,
     may: MayGo,
 ) -> Result<(), AllocError>
-    ensures { OnOk result (out.new.items ≡ out.old.items ++ found_line table.now number row.now last asking may) }
+    ensures { OnOk result (out.new.items ≡ out.old.items ++ found_line (table_view document.now) table.now number row.now last asking may) }
 {
-    push_row(out, table, number, row)?;
+    push_row(out, document, table, number, row)?;
     push_state(out, last, asking, may_go_word(may), has_any(row))
 }
 
 fn push_key(
     out: &mut Vec<u8>,
+    document: &toml::Table,
     evidence: &Evidence,
     tables: &Tables,
     table: &Table,
-    number: u64,
+    row_number: u8,
     row: &Row,
 ) -> Result<(), AllocError>
-    ensures { OnOk result (out.new.items ≡ out.old.items ++ key_line evidence.now tables.now table.now number row.now) }
+    ensures { OnOk result (out.new.items ≡ out.old.items ++ key_line (keys_at (table_view document.now) tables.now) evidence.now table.now row_number row.now) }
 {
+    let number = u64::from(row_number);
     let last = last_carrying(evidence.uses(), table, number, row);
     let asked = first_asking(evidence, table, number, row);
     let may = may_go(evidence, tables, table, number, row);
-    push_found(out, table, number, row, last, asked, may)?;
+    push_found(out, document, table, row_number, row, last, asked, may)?;
     push_obstacles(out, evidence, tables, table, number, row)
 }
 
 fn push_rows(
     out: &mut Vec<u8>,
+    document: &toml::Table,
     evidence: &Evidence,
     tables: &Tables,
     table: &Table,
-    rows: &[Row],
 ) -> Result<(), AllocError>
-    ensures { OnOk result (out.new.items ≡ out.old.items ++ key_lines evidence.now tables.now table.now 1 rows.now) }
+    ensures { OnOk result (out.new.items ≡ out.old.items ++ key_lines (keys_at (table_view document.now) tables.now) evidence.now table.now 1 table.now.rows) }
 {
+    // It tells that a table has at most 64 rows, so that each number fits.
+    let _count = table.rows();
+    let rows = table.entries();
     for (i, row) in rows.iter().enumerate() {
-        push_key(out, evidence, tables, table, i as u64 + 1, row)?;
+        push_key(out, document, evidence, tables, table, (i + 1) as u8, row)?;
     }
     Ok(())
 }
@@ -182,14 +219,15 @@ fn push_rows(
 /// Puts the lines of the rows of all nodes behind `out`.
 pub(crate) fn push_keys(
     out: &mut Vec<u8>,
+    document: &toml::Table,
     evidence: &Evidence,
     tables: &Tables,
 ) -> Result<(), AllocError>
-    ensures { OnOk result (out.new.items ≡ out.old.items ++ keys_lines evidence.now tables.now) }
+    ensures { OnOk result (out.new.items ≡ out.old.items ++ keys_lines (keys_at (table_view document.now) tables.now) evidence.now) }
 {
     for i in 0..tables.nodes() {
         let table = tables.node(i + 1);
-        push_rows(out, evidence, tables, table, table.entries())?;
+        push_rows(out, document, evidence, tables, table)?;
     }
     Ok(())
 }

@@ -3,6 +3,7 @@
 #![tactic(auto)]
 
 mod count;
+mod document;
 mod due;
 mod halt;
 mod heard;
@@ -15,6 +16,7 @@ mod json_values;
 mod key_texts;
 mod obstacles;
 mod passed_texts;
+mod protections;
 mod session_texts;
 mod stored;
 mod table_text;

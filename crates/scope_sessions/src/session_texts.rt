@@ -1,15 +1,13 @@
-//! The lines of a capture, of sessions and of packets that are passed over.
+//! The lines of a capture and of sessions.
 ghost use Rattle.std.specs.Prelude.{◌≡◌, ◌++◌, ◌∷◌, [], ◌==◌, ◌&&◌, List, OnOk, IfSome, cond, Some, None, codes, decimal};
 ghost use Rattle.std.specs.List.{find, flat_map, list_any};
 ghost use Rattle.book_lines.specs.Texts.{spaced};
 ghost use Rattle.book_scope_texts.specs.Addresses.{usual_address_text};
 ghost use Rattle.book_scope_texts.specs.Instants.{instant_text};
-ghost use Rattle.book_sessions.specs.SessionTexts.{capture_line, earliest_seen, heading_line, id_text, is_of_session, lines_of_session, opens_session, passed_line, seen_text, sessions_lines, span_texts, use_line, use_line_in};
+ghost use Rattle.book_sessions.specs.SessionTexts.{capture_line, earliest_seen, heading_line, id_text, is_of_session, lines_of_session, opens_session, protection_text, seen_text, sessions_lines, span_texts, use_line, use_line_in};
 
-use crate::passed_texts::push_passed;
-use ao_base::push_decimal;
 use book_base::{Address, Socket};
-use book_sessions::{KeyUse, PassedCount};
+use book_sessions::{KeyUse, Protection};
 use scope_retiring::{is_verified, latest_seen};
 use scope_texts::{push_address, push_instant};
 use session_index::{SessionIndex, outcome_word};
@@ -180,17 +178,35 @@ fn push_heading(
     }
 }
 
-// Puts the front of the line of segments behind `out`: their direction and their KeyID.
+// Puts behind `out` how segments are protected.
+fn push_protection(
+    out: &mut Vec<u8>,
+    protection: Protection,
+    key_id: Option<u8>,
+) -> Result<(), AllocError>
+    ensures { OnOk result (out.new.items ≡ out.old.items ++ 32 ∷ protection_text protection key_id) }
+{
+    match protection {
+        Protection::Ao => {
+            push_text(out, b"key")?;
+            push_id(out, key_id)
+        }
+        Protection::Md5 => push_text(out, b"md5"),
+        Protection::Plain => push_text(out, b"plain"),
+        Protection::Unclear => push_text(out, b"key -"),
+    }
+}
+
+// Puts the front of the line of segments behind `out`: their direction and how they are protected.
 fn push_direction(out: &mut Vec<u8>, one: &KeyUse) -> Result<(), AllocError>
     ensures { OnOk result (out.new.items ≡ out.old.items ++ (codes " " ++ spaced (usual_address_text one.now.source.address ∷ codes ">"
-        ∷ usual_address_text one.now.destination.address ∷ codes "key" ∷ id_text one.now.key_id ∷ []))) }
+        ∷ usual_address_text one.now.destination.address ∷ protection_text one.now.protection one.now.key_id ∷ []))) }
 {
     out.push(b' ')?;
     push_host(out, &one.source.address)?;
     push_text(out, b">")?;
     push_host(out, &one.destination.address)?;
-    push_text(out, b"key")?;
-    push_id(out, one.key_id)
+    push_protection(out, one.protection, one.key_id)
 }
 
 // Puts behind `out` how many segments they are, and when they were seen.
@@ -275,26 +291,6 @@ pub(crate) fn push_sessions(
 {
     for i in 0..index.sessions() {
         push_own(alloc, out, index, i + 1)?;
-    }
-    Ok(())
-}
-
-fn push_count(out: &mut Vec<u8>, count: &PassedCount) -> Result<(), AllocError>
-    ensures { OnOk result (out.new.items ≡ out.old.items ++ passed_line count.now) }
-{
-    out.extend_from_slice(b"other ")?;
-    push_decimal(out, count.packets)?;
-    out.push(b' ')?;
-    push_passed(out, count.why)?;
-    push_newline(out)
-}
-
-/// Puts the lines of packets that are passed over behind `out`.
-pub(crate) fn push_counts(out: &mut Vec<u8>, passed: &[PassedCount]) -> Result<(), AllocError>
-    ensures { OnOk result (out.new.items ≡ out.old.items ++ flat_map passed_line passed.now) }
-{
-    for count in passed {
-        push_count(out, count)?;
     }
     Ok(())
 }

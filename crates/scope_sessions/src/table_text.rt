@@ -2,11 +2,14 @@
 ghost use Rattle.std.specs.Prelude.{◌≡◌, ◌++◌, ◌||◌, not, OnOk, IfSome};
 ghost use Rattle.std.specs.List.{list_any};
 ghost use Rattle.book_sessions.specs.Counts.{all_counted, all_passed};
+ghost use Rattle.toml.specs.View.{table_view};
 ghost use Rattle.book_sessions.specs.OutcomeTexts.{is_verified};
 ghost use Rattle.book_sessions.specs.SessionTexts.{has_amiss, sessions_text, unset_line};
+ghost use Rattle.scope_sessions.specs.Halts.{keys_at};
 
 use crate::key_texts::push_keys;
-use crate::session_texts::{push_capture, push_counts, push_sessions};
+use crate::passed_texts::push_counts;
+use crate::session_texts::{push_capture, push_sessions};
 use ao_base::push_decimal;
 use book_sessions::{KeyUse, PassedCount};
 use key_table::Tables;
@@ -68,10 +71,11 @@ fn push_unset(out: &mut Vec<u8>, unset: u64) -> Result<(), AllocError>
 pub(crate) fn push_table(
     alloc: Global,
     out: &mut Vec<u8>,
+    document: &toml::Table,
     tables: &Tables,
     index: &SessionIndex,
 ) -> Result<(), AllocError>
-    ensures { OnOk result (out.new.items ≡ out.old.items ++ sessions_text tables.now index.now) }
+    ensures { OnOk result (out.new.items ≡ out.old.items ++ sessions_text (keys_at (table_view document.now) tables.now) index.now) }
 {
     let uses = index.uses();
     let segments = all_counted(uses).ok_or(AllocError)?;
@@ -81,6 +85,6 @@ pub(crate) fn push_table(
     push_counts(out, index.passed())?;
     push_unset(out, index.unset())?;
     push_sessions(alloc, out, index)?;
-    push_keys(out, &evidence, tables)?;
+    push_keys(out, document, &evidence, tables)?;
     Ok(())
 }

@@ -1,9 +1,11 @@
 //! A capture's table of sessions, written when the capture is read.
 ghost use Rattle.std.specs.Prelude.{◌≡◌, ℕ, List};
+ghost use Rattle.toml.specs.View.{table_view};
 ghost use Rattle.ao_base.specs.Outside.{Side};
 ghost use Rattle.scope_sessions.specs.Writing.{Writes, WritesCounted};
 
 use crate::count::{CountHalt, Counted, count_capture};
+use crate::document::read_document;
 use crate::due::push_form;
 use crate::halt::{JudgingHalt, halt_of, halt_of_lines};
 use crate::isns::read_given;
@@ -17,16 +19,18 @@ use std::alloc::Global;
 fn write_counted<O: Sink>(
     alloc: Global,
     form: TableForm,
+    document: &toml::Table,
     counted: &Counted,
     out: &mut O,
 ) -> Result<bool, JudgingHalt>
-    ensures { WritesCounted form counted.now (O.side out.old) (O.side out.new) result }
+    ensures { WritesCounted form (table_view document.now) counted.now (O.side out.old) (O.side out.new) result }
 {
     let mut text = Vec::new(alloc);
     match push_form(
         alloc,
         form,
         &mut text,
+        document,
         counted.listener.tables(),
         &counted.index,
     ) {
@@ -76,12 +80,25 @@ pub fn write_sessions<I: Source, O: Sink>(
         Ok(tables) => tables,
         Err(fault) => return Err(halt_of(fault)),
     };
+    let document = match read_document(alloc, keys) {
+        Ok(document) => document,
+        Err(fault) => return Err(halt_of(fault)),
+    };
     let given = match read_given(alloc, isns) {
         Ok(given) => given,
         Err(fault) => return Err(halt_of_lines(fault)),
     };
-    match count_capture(alloc, tables, laps, given.as_slice(), request, input, out) {
-        Ok(counted) => write_counted(alloc, request.form, &counted, out),
+    match count_capture(
+        alloc,
+        tables,
+        laps,
+        given.as_slice(),
+        &document,
+        request,
+        input,
+        out,
+    ) {
+        Ok(counted) => write_counted(alloc, request.form, &document, &counted, out),
         Err(CountHalt::TooLong) => Err(JudgingHalt::TooLong),
         Err(CountHalt::Read) => Err(JudgingHalt::Read),
         Err(CountHalt::Write) => Err(JudgingHalt::Write),

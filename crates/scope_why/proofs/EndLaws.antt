@@ -21,8 +21,8 @@ use Rattle.scope_sessions.specs.declared.halt.JudgingHalt.{JudgingHalt}
 use Rattle.scope_sessions.specs.declared.halt.JudgingHalt.TheVariants as halt
 use Rattle.scope_why.specs.declared.write.WhyRequest.{WhyRequest}
 use Rattle.scope_why.specs.Reading.{IsAnswer, Reads}
-use Rattle.scope_sessions.specs.Halts.{halt_of, halt_of_lines}
-use Rattle.scope_why.specs.Writing.{Ends, EndsBy, EndsWith, Writes, WritesAnswer, key_file_by, key_file_in, question_of}
+use Rattle.scope_sessions.specs.Halts.{halt_of, halt_of_lines, key_file_by, key_file_in}
+use Rattle.scope_why.specs.Writing.{Ends, EndsBy, EndsWith, Writes, WritesAnswer, question_of}
 use Rattle.scope_why.proofs.Walk.{ends_none}
 
 file_is : (tables : Result (List Table) TableFault) (document : Option Members) (ts : List Table) (d : Members) → tables ≡ Ok ts → document ≡ Some d → key_file_by tables document ≡ Ok (record { document = d; tables = ts })

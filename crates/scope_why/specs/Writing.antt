@@ -1,21 +1,17 @@
 -- What is read of a capture and written of it (own). Its top is `Writes`.
-use Rattle.std.specs.Prelude.{◌≡◌, ℕ, ◌<◌, Bool, List, [], length, Option, Some, None, Result, Ok, Err}
+use Rattle.std.specs.Prelude.{◌≡◌, ℕ, ◌<◌, Bool, List, [], length, Result, Ok, Err}
 use Rattle.std.specs.List.{All}
-use Rattle.toml.specs.Data.{Members}
 use Rattle.ao_base.specs.Outside.{Side, Gave, WasWritten, Rose}
 use Rattle.book_base.specs.Hexadecimal.{IsByte}
 use Rattle.book_cmd_check.specs.declared.given.GivenIsns.{GivenIsns}
 use Rattle.book_lines.specs.declared.text_fault.TextFault.{TextFault}
 use Rattle.book_lines.specs.declared.text_fault.TextFault.TheVariants as line_fault
 use Rattle.book_keys.specs.declared.fault.TableFault.{TableFault}
-use Rattle.book_keys.specs.declared.fault.TableFault.TheVariants as fault
-use Rattle.book_keys.specs.Nodes.{document_of, tables_of}
-use Rattle.book_keys.specs.Rows.{Table}
 use Rattle.book_scope_plan.specs.AdminNames.{KeyFile}
 use Rattle.book_sessions.specs.GivenLines.{given_isns_of}
 use Rattle.book_why_texts.specs.Answers.{WhyAsked}
 use Rattle.capture_stream.specs.Reads.{most_read}
-use Rattle.scope_sessions.specs.Halts.{Nothing}
+use Rattle.scope_sessions.specs.Halts.{Nothing, key_file_in}
 use Rattle.scope_sessions.specs.Texts.{BreaksText}
 use Rattle.scope_why.specs.declared.answer.Answered.{Answered}
 use Rattle.scope_sessions.specs.declared.halt.JudgingHalt.{JudgingHalt}
@@ -73,16 +69,6 @@ EndsWith request keys (Err why) given a c out_before out_now (Err halt.TooManyIs
 EndsWith request keys (Err why) given a c out_before out_now (Err halt.Memory) =
     Nothing given out_before out_now
 EndsWith request keys (Err why) given a c out_before out_now other = ⊥
-
--- the key file of these tables and this document, or why it is refused (own)
-abbrev pub key_file_by : Result (List Table) TableFault → Option Members → Result KeyFile TableFault
-key_file_by (Ok tables) (Some document) = Ok (record { document = document; tables = tables })
-key_file_by (Ok tables) None = Err fault.Syntax
-key_file_by (Err why) document = Err why
-
--- the key file that a text is (own)
-abbrev pub key_file_in : List ℕ → Result KeyFile TableFault
-key_file_in text = key_file_by (tables_of text) (document_of text)
 
 -- how each end comes: a key file that is refused ends all before the capture is read (own)
 abbrev pub EndsBy : WhyRequest → Result KeyFile TableFault → Result (List GivenIsns) TextFault →

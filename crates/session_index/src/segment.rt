@@ -3,7 +3,7 @@ ghost use Rattle.std.specs.Prelude.{◌≡◌, IfSome};
 ghost use Rattle.book_sessions.specs.Sessions.{asked_by, carries_ids_of, first_use, is_use_of, key_id_of, marked, passed_as, passed_row, used_again};
 
 use crate::signs::{after_of, goes_as, is_same_flow, isns_of};
-use crate::words::{is_same_id, is_same_outcome};
+use crate::words::{is_same_id, is_same_outcome, is_same_protection};
 use book_sessions::{KeyUse, SeenSegment, Signs};
 
 fn key_id_of(segment: &SeenSegment) -> Option<u8>
@@ -27,7 +27,8 @@ fn passed_row(segment: &SeenSegment) -> Option<u8>
 fn carries_ids_of(segment: &SeenSegment, one: &KeyUse) -> bool
     ensures { result ≡ carries_ids_of segment.now one.now }
 {
-    is_same_id(key_id_of(segment), one.key_id) && is_same_id(asked_by(segment), one.asked)
+    (is_same_id(key_id_of(segment), one.key_id) && is_same_id(asked_by(segment), one.asked))
+        && is_same_protection(segment.protection, one.protection)
 }
 
 fn passed_as(segment: &SeenSegment, one: &KeyUse) -> bool
@@ -61,6 +62,7 @@ pub(crate) fn first_use(session: u64, signs: Signs, segment: &SeenSegment) -> Ke
         destination: segment.destination,
         key_id: key_id_of(segment),
         asked: asked_by(segment),
+        protection: segment.protection,
         outcome: segment.outcome,
         row: passed_row(segment),
         isns: isns_of(segment),
@@ -87,6 +89,7 @@ pub(crate) fn used_again(signs: Signs, segment: &SeenSegment, one: &KeyUse) -> O
         destination: one.destination,
         key_id: one.key_id,
         asked: one.asked,
+        protection: one.protection,
         outcome: one.outcome,
         row: one.row,
         isns: one.isns,

@@ -2,10 +2,10 @@
 ghost use Rattle.std.specs.Prelude.{◌≡◌, ◌++◌, codes};
 ghost use Rattle.book_link.specs.Reports.{verdict_text};
 ghost use Rattle.book_sessions.specs.OutcomeTexts.{outcome_text};
-ghost use Rattle.book_sessions.specs.Sessions.{same_id, same_outcome};
+ghost use Rattle.book_sessions.specs.Sessions.{same_id, same_outcome, same_protection};
 
 use book_endpoint::Verdict;
-use book_sessions::SegmentOutcome;
+use book_sessions::{Protection, SegmentOutcome};
 use segment_words::verdict_word;
 
 fn unconfirmed_word(why: Verdict) -> &'static [u8]
@@ -43,6 +43,12 @@ pub(crate) fn is_same_outcome(one: SegmentOutcome, two: SegmentOutcome) -> bool
     ensures { result ≡ same_outcome one two }
 {
     outcome_word(one) == outcome_word(two)
+}
+
+pub(crate) fn is_same_protection(one: Protection, two: Protection) -> bool
+    ensures { result ≡ same_protection one two }
+{
+    one == two
 }
 
 pub(crate) fn is_same_id(one: Option<u8>, two: Option<u8>) -> bool
