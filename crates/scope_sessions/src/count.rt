@@ -139,7 +139,16 @@ fn count_all<L: Ledger, I: Source, O: Sink>(
             Err(CaptureHalt::Broken(fault)) => return Ok(Some(fault)),
         }
         let now = second_of(reader.time());
-        match write_due(alloc, request, document, listener.tables(), index, since, now, out) {
+        match write_due(
+            alloc,
+            request,
+            document,
+            listener.tables(),
+            index,
+            since,
+            now,
+            out,
+        ) {
             Ok(()) => {}
             Err(TextHalt::Write) => return Err(CountHalt::Write),
             Err(TextHalt::Memory) => return Err(CountHalt::Memory),

@@ -182,7 +182,16 @@ fn push_rows(
     let mut still = first;
     for (i, row) in rows.iter().enumerate() {
         push_comma(out, still)?;
-        push_key(alloc, out, document, evidence, tables, table, (i + 1) as u8, row)?;
+        push_key(
+            alloc,
+            out,
+            document,
+            evidence,
+            tables,
+            table,
+            (i + 1) as u8,
+            row,
+        )?;
         still = false;
     }
     Ok(still)

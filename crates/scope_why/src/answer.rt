@@ -232,9 +232,7 @@ fn answer_stored<L: Ledger>(
 {
     let found = mended(alloc, stored.bytes)?;
     match found {
-        None => answer_judged(
-            checker, told, question, alloc, steps, number, false, stored,
-        ),
+        None => answer_judged(checker, told, question, alloc, steps, number, false, stored),
         Some(whole) => answer_judged(
             checker,
             told,
