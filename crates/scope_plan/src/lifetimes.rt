@@ -11,7 +11,7 @@ use key_table::{Lifetime, Row};
 use scope_texts::push_instant;
 use std::alloc::AllocError;
 
-fn push_number(out: &mut Vec<u8>, number: u8) -> Result<(), AllocError>
+pub(crate) fn push_number(out: &mut Vec<u8>, number: u8) -> Result<(), AllocError>
     ensures { OnOk result (out.new.items ≡ out.old.items ++ decimal number) }
 {
     push_decimal(out, u64::from(number))

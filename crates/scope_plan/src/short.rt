@@ -89,5 +89,6 @@ pub(crate) fn push_short(
     for (i, other) in rows.iter().enumerate() {
         told = push_accepting(out, facing, sent, told, (i + 1) as u8, other)?;
     }
-    push_if(out, !told, b"    none of these changes will do\n")
+    push_if(out, !told, b"    none of these changes will do\n")?;
+    Ok(())
 }

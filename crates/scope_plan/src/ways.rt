@@ -9,7 +9,7 @@ ghost use Rattle.book_scope_plan.specs.WayTexts.{accepting_line, is_clear, moved
 ghost use Rattle.scope_plan.specs.Facings.{facing_of};
 
 use crate::facing::Facing;
-use ao_base::push_decimal;
+use crate::lifetimes::push_number;
 use key_plan::{Obstacle, Side, accepting_obstacle};
 use key_table::{Lifetime, Row};
 use plan_texts::row_name;
@@ -76,7 +76,8 @@ fn push_overlap(out: &mut Vec<u8>, number: u8) -> Result<(), AllocError>
     ensures { OnOk result (out.new.items ≡ out.old.items ++ (codes "it would overlap row " ++ decimal number)) }
 {
     out.extend_from_slice(b"it would overlap row ")?;
-    push_decimal(out, u64::from(number))
+    push_number(out, number)?;
+    Ok(())
 }
 
 /// Why another lifetime of a row won't do.
@@ -109,6 +110,17 @@ fn push_obstacle_end(out: &mut Vec<u8>, obstacle: Obstacle) -> Result<(), AllocE
     out.extend_from_slice(b"\n")
 }
 
+/// What stands in the way of a change.
+fn push_stuck(out: &mut Vec<u8>, change: &[u8], obstacle: Obstacle) -> Result<(), AllocError>
+    ensures { OnOk result (out.new.items ≡ out.old.items ++ (codes "    moving " ++ (change.now ++ (codes " won't do: " ++ (obstacle_text obstacle ++ codes "\n"))))) }
+{
+    out.extend_from_slice(b"    moving ")?;
+    out.extend_from_slice(change)?;
+    out.extend_from_slice(b" won't do: ")?;
+    push_obstacle_end(out, obstacle)?;
+    Ok(())
+}
+
 /// A change that mends, or what stands in its way.
 #[tactic(auto, unfolding(book_scope_plan::specs::WayTexts::way_line))]
 fn push_way(
@@ -125,12 +137,7 @@ fn push_way(
             out.extend_from_slice(change)?;
             out.extend_from_slice(b"\n")
         }
-        Some(obstacle) => {
-            out.extend_from_slice(b"    moving ")?;
-            out.extend_from_slice(change)?;
-            out.extend_from_slice(b" won't do: ")?;
-            push_obstacle_end(out, obstacle)
-        }
+        Some(obstacle) => push_stuck(out, change, obstacle),
     }
 }
 
