@@ -75,4 +75,4 @@ unfolding connection_text
 good_text keys plan pair a b at_a at_b good =
     ap (λ o. connection_line pair ++ nodes_text o (node_with keys.tables pair.remote.address) keys plan pair) at_a
     ∙ ap (λ o. connection_line pair ++ nodes_text (Some a) o keys plan pair) at_b
-    ∙ ap (λ fs. connection_line pair ++ (calendar_text a b (calendar_of keys.tables pair plan.from plan.to) ++ findings_text (facing keys a b pair) keys.tables plan fs)) (good_findings keys.tables plan pair good)
+    ∙ ap (λ fs. connection_line pair ++ (calendar_text a b (calendar_of keys.tables pair plan.from plan.to) ++ findings_text (facing keys a b plan pair) keys.tables fs)) (good_findings keys.tables plan pair good)

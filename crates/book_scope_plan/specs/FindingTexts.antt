@@ -1,4 +1,5 @@
--- What is written of each thing that doesn't hold of a planned rollover. Its top is `finding_text`.
+-- What is written of rows of two ends that don't fit: in which columns they differ, and how long
+-- one accepts what the other sends. Its tops are `refused_text` and `lifetime_lines`.
 use Rattle.std.specs.Prelude.{ℕ, ◌+◌, ◌-◌, ◌==◌, min, nat_lt, Bool, true, false, List, [], ◌∷◌}
 use Rattle.std.specs.Prelude.{◌++◌, codes, decimal, Option, Some, None}
 use Rattle.book_base.specs.declared.address.Pair.{Pair}
@@ -9,24 +10,22 @@ use Rattle.book_keys.specs.declared.lifetime.Lifetime.{Lifetime}
 use Rattle.book_keys.specs.Plans.{mirrored}
 use Rattle.book_keys.specs.Rows.{Row, Table}
 use Rattle.book_plans.specs.declared.differences.Differences.{Differences}
-use Rattle.book_plans.specs.declared.finding.Finding.{Finding}
-use Rattle.book_plans.specs.declared.finding.Finding.TheVariants as finding
-use Rattle.book_plans.specs.Differences.{differences, is_alike}
+use Rattle.book_plans.specs.Differences.{differences}
 use Rattle.book_plans.specs.Findings.{wanted_accepting}
 use Rattle.book_keys.specs.declared.plan.Plan.{Plan}
 use Rattle.book_scope_keys.specs.FieldTexts.{text_shown}
-use Rattle.book_scope_texts.specs.Instants.{instant_text, key_time_text}
+use Rattle.book_scope_texts.specs.Instants.{instant_text}
 use Rattle.book_scope_plan.specs.AdminNames.{admin_name}
-use Rattle.book_scope_plan.specs.CalendarTexts.{row_numbered}
 use Rattle.toml.specs.Data.{Members}
 
 -- a connection as one of its ends sees it: the document that the key file is, the table of its
--- node, that of the other end's, and the pair (own)
+-- node, that of the other end's, the pair, and what is asked of the plan (own)
 pub record Facing : Type 0 where
   pub document : Members
   pub node : Table
   pub other : Table
   pub pair : Pair
+  pub plan : Plan
 
 -- a connection as this end sees it, which is given as end a does (own)
 abbrev pub facing_at : End → Facing → Facing
@@ -36,6 +35,7 @@ facing_at B f = record {
   node = f.other;
   other = f.node;
   pair = mirrored f.pair;
+  plan = f.plan;
 }
 
 -- one for what holds, and none for what doesn't (own)
@@ -150,49 +150,32 @@ sends_text name word time =
 
 -- how many seconds are left, and how many are wanted (own)
 unfoldable pub wanted_text : (left : ℕ) → (word : List ℕ) → (wanted : ℕ) → List ℕ
-wanted_text left word wanted = decimal left ++ (word ++ (decimal wanted ++ codes " wanted; set "))
-
--- what a column of a row is to be set to, at least or at most (RFC 7210, section 2, and own)
-unfoldable pub set_text : (column row : List ℕ) → (time : ℕ) → (word : List ℕ) → List ℕ
-set_text column row time word =
-    column ++ (codes " of " ++ (row ++ (codes " to " ++ (key_time_text time ++ word))))
+wanted_text left word wanted = decimal left ++ (word ++ (decimal wanted ++ codes " wanted\n"))
 
 -- when a row of the other end is to accept what a row sends (own)
 abbrev pub planned_accepting : Plan → Row → Lifetime
 planned_accepting plan r = wanted_accepting plan.lead plan.lag r
 
 -- the line of a row of the other end, of this number, that begins to accept too late (own)
-unfoldable pub early_line : Facing → Plan → ℕ → (sending other : Row) → List ℕ
-early_line f plan n r o =
+unfoldable pub early_line : Facing → ℕ → (sending other : Row) → List ℕ
+early_line f n r o =
     accepts_text f.other.name n (codes " from ") o.accepting.first
     ++ (sends_text f.node.name (codes " from ") r.sending.first
-    ++ (wanted_text (r.sending.first - o.accepting.first) (codes " s before, ") plan.lead
-    ++ set_text (codes "AcceptLifetimeStart") (row_name f.document f.other.name n)
-    (planned_accepting plan r).first (codes " or earlier\n")))
+    ++ wanted_text (r.sending.first - o.accepting.first) (codes " s before, ") f.plan.lead)
 
 -- the line of a row of the other end, of this number, that ends to accept too early (own)
-unfoldable pub late_line : Facing → Plan → ℕ → (sending other : Row) → List ℕ
-late_line f plan n r o =
+unfoldable pub late_line : Facing → ℕ → (sending other : Row) → List ℕ
+late_line f n r o =
     accepts_text f.other.name n (codes " until ") o.accepting.last
     ++ (sends_text f.node.name (codes " until ") r.sending.last
-    ++ (wanted_text (o.accepting.last - r.sending.last) (codes " s after, ") plan.lag
-    ++ set_text (codes "AcceptLifetimeEnd") (row_name f.document f.other.name n)
-    (planned_accepting plan r).last (codes " or later\n")))
+    ++ wanted_text (o.accepting.last - r.sending.last) (codes " s after, ") f.plan.lag)
 
 -- what a row of the other end that accepts what a row sends lacks of the lifetime that is wanted
 -- (RFC 7210, section 2, and own)
-unfoldable pub lifetime_lines : Facing → Plan → ℕ → (sending other : Row) → List ℕ
-lifetime_lines f plan n r o =
-    text_if (nat_lt (planned_accepting plan r).first o.accepting.first) (early_line f plan n r o)
-    ++ text_if (nat_lt o.accepting.last (planned_accepting plan r).last) (late_line f plan n r o)
-
--- the lines of the rows of the other end that accept what a row sends, the first having number n
--- (own)
-abbrev pub accepting_lines : Facing → Plan → Row → (first : ℕ) → (others : List Row) → List ℕ
-accepting_lines f plan r n [] = []
-accepting_lines f plan r n (o ∷ os) =
-    text_if (is_alike (differences f.pair r o)) (lifetime_lines f plan n r o)
-    ++ accepting_lines f plan r (n + 1) os
+unfoldable pub lifetime_lines : Facing → ℕ → (sending other : Row) → List ℕ
+lifetime_lines f n r o =
+    text_if (nat_lt (planned_accepting f.plan r).first o.accepting.first) (early_line f n r o)
+    ++ text_if (nat_lt o.accepting.last (planned_accepting f.plan r).last) (late_line f n r o)
 
 -- with which id a row sends (RFC 5925, section 3.1)
 unfoldable pub sent_id_text : Row → List ℕ
@@ -212,13 +195,6 @@ refused_text f n (Some r) =
     unmet_line f n r (codes " takes it\n")
     ++ nearest_lines f r (fewest f.pair r 7 f.other.rows) 1 f.other.rows
 
--- what is said of a row that no row of the other end accepts for long enough: when those accept
--- that do (own)
-abbrev pub short_text : Facing → Plan → ℕ → Option Row → List ℕ
-short_text f plan n None = []
-short_text f plan n (Some r) =
-    unmet_line f n r short_words ++ accepting_lines f plan r 1 f.other.rows
-
 -- the seconds from one to another, both included; 2^64 - 1 of them stand for more (own)
 abbrev pub seconds_between : (first last : ℕ) → ℕ
 seconds_between first last = min 18446744073709551615 (last + 1 - first)
@@ -230,17 +206,3 @@ times_text first last = instant_text first ++ (codes " to " ++ instant_text last
 -- how many seconds they are (own)
 unfoldable pub seconds_text : (first last : ℕ) → List ℕ
 seconds_text first last = codes ", " ++ (decimal (seconds_between first last) ++ codes " s\n")
-
--- what is said of a gap (RFC 7210, section 3, and own)
-unfoldable pub gap_text : (name : List ℕ) → (first last : ℕ) → List ℕ
-gap_text name first last =
-    codes "  WRONG " ++ (name ++ (codes " has no row to send with from "
-    ++ (times_text first last ++ seconds_text first last)))
-
--- what is said of a finding on a connection, which is given as end a sees it (own)
-abbrev pub finding_text : Facing → Plan → Finding → List ℕ
-finding_text f plan (finding.NoPeerRow end n) =
-    refused_text (facing_at end f) n (row_numbered (facing_at end f).node.rows n)
-finding_text f plan (finding.ShortAccept end n) =
-    short_text (facing_at end f) plan n (row_numbered (facing_at end f).node.rows n)
-finding_text f plan (finding.Gap end first last) = gap_text (facing_at end f).node.name first last

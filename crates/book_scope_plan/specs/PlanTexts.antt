@@ -18,7 +18,8 @@ use Rattle.book_plans.specs.Margins.{lead_margin_of, lag_margin_of}
 use Rattle.book_scope_texts.specs.Addresses.{usual_address_text}
 use Rattle.book_scope_plan.specs.AdminNames.{KeyFile}
 use Rattle.book_scope_plan.specs.CalendarTexts.{calendar_text}
-use Rattle.book_scope_plan.specs.FindingTexts.{Facing, finding_text}
+use Rattle.book_scope_plan.specs.FindingTexts.{Facing}
+use Rattle.book_scope_plan.specs.WayTexts.{finding_text}
 
 -- an address and a port (own)
 unfoldable pub usual_socket_text : Socket → List ℕ
@@ -47,25 +48,32 @@ aligned_line lead lag =
     ++ (codes " and " ++ (margin_text (codes "LAG") lag ++ 10 ∷ [])))
 
 -- what is said of all findings on a connection, as end a sees it, or that there is none (own)
-abbrev pub findings_text : Facing → List Table → Plan → List Finding → List ℕ
-findings_text ends tables plan [] =
-    aligned_line (lead_margin_of tables ends.pair plan.lag)
-    (lag_margin_of tables ends.pair plan.lead)
-findings_text ends tables plan (f ∷ fs) = flat_map (finding_text ends plan) (f ∷ fs)
+abbrev pub findings_text : Facing → List Table → List Finding → List ℕ
+findings_text ends tables [] =
+    aligned_line (lead_margin_of tables ends.pair ends.plan.lag)
+    (lag_margin_of tables ends.pair ends.plan.lead)
+findings_text ends tables (f ∷ fs) = flat_map (finding_text ends) (f ∷ fs)
 
 -- all findings on a connection (own)
 abbrev pub plan_findings : List Table → Plan → Pair → List Finding
 plan_findings tables plan pair = findings_of tables pair plan
 
 -- a connection between nodes of these tables, as end a sees it (own)
-abbrev pub facing : KeyFile → (a b : Table) → Pair → Facing
-facing keys a b pair = record { document = keys.document; node = a; other = b; pair = pair }
+abbrev pub facing : KeyFile → (a b : Table) → Plan → Pair → Facing
+facing keys a b plan pair = record {
+  document = keys.document;
+  node = a;
+  other = b;
+  pair = pair;
+  plan = plan;
+}
 
 -- what is said of a connection whose ends have tables, as end a sees it (own)
-abbrev pub both_text : Facing → List Table → Plan → List ℕ
-both_text ends tables plan =
-    calendar_text ends.node ends.other (calendar_of tables ends.pair plan.from plan.to)
-    ++ findings_text ends tables plan (plan_findings tables plan ends.pair)
+abbrev pub both_text : Facing → List Table → List ℕ
+both_text ends tables =
+    calendar_text ends.node ends.other
+    (calendar_of tables ends.pair ends.plan.from ends.plan.to)
+    ++ findings_text ends tables (plan_findings tables ends.plan ends.pair)
 
 -- that no node has the address (own)
 unfoldable pub missing_words : Address → List ℕ
@@ -82,7 +90,7 @@ node_with tables address = find (has_address address) tables
 
 -- what is said of a connection by the nodes of its ends (own)
 abbrev pub nodes_text : (a b : Option Table) → KeyFile → Plan → Pair → List ℕ
-nodes_text (Some a) (Some b) keys plan pair = both_text (facing keys a b pair) keys.tables plan
+nodes_text (Some a) (Some b) keys plan pair = both_text (facing keys a b plan pair) keys.tables
 nodes_text a b keys plan pair =
     missing_text a pair.local.address ++ missing_text b pair.remote.address
 

@@ -1,11 +1,13 @@
 //! What is written of planned rollovers for those who operate routers: the line that names a connection,
 //! the calendar of its keys, all that is wrong and what to set, and by how much the clocks may be off.
-//! Definitions, with the plain type that code shares with them; the empty functions carry theorems about
+//! Definitions, with the plain types that code shares with them; the empty functions carry theorems about
 //! them.
 #![tactic(auto)]
 
+mod gap_seconds;
 mod laws;
 mod told;
 
+pub use gap_seconds::GapSeconds;
 pub use laws::{aligned_plans_are_of_lint, good_plans_say_aligned};
 pub use told::Told;

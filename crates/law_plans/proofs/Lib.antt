@@ -1,2 +1,3 @@
 mod Changing
 mod Mending
+mod Telling

@@ -1,7 +1,8 @@
 //! Theorems about the ways to mend a plan, as clauses of functions that do nothing.
-ghost use Rattle.std.specs.Prelude.{◌≡◌, ◌≤◌, ◌-◌, ℕ, true, List, None, Some};
+ghost use Rattle.std.specs.Prelude.{◌≡◌, ◌≤◌, ◌-◌, ℕ, true, List, [], ◌∷◌, None, Some};
 ghost use Rattle.std.specs.List.{AllByRecursion, slice_get};
 ghost use Rattle.book_base.specs.declared.address.Pair.{Pair};
+ghost use Rattle.book_base.specs.declared.end.End.{End};
 ghost use Rattle.book_base.specs.declared.end.End.TheVariants.{A, B};
 ghost use Rattle.book_keys.specs.declared.lifetime.Lifetime.{Lifetime};
 ghost use Rattle.book_keys.specs.declared.lint.LintAnswer.TheVariants as answer;
@@ -9,10 +10,15 @@ ghost use Rattle.book_keys.specs.declared.plan.Plan.{Plan};
 ghost use Rattle.book_keys.specs.Overlaps.{IsValid};
 ghost use Rattle.book_keys.specs.Plans.{accepts_from, lint_rows, mirrored};
 ghost use Rattle.book_keys.specs.Rows.{Row};
+ghost use Rattle.book_plans.specs.declared.finding.Finding.TheVariants as finding;
+ghost use Rattle.book_plans.specs.Differences.{differences, is_alike};
 ghost use Rattle.book_plans.specs.Findings.{accepting_in, findings};
 ghost use Rattle.book_plans.specs.Margins.{IsOrdered};
-ghost use Rattle.book_plans.specs.Ways.{accepting_obstacle, changed_row, fitting_accepting, sending_in, sending_obstacle};
-ghost use Rattle.law_plans.specs.Own.{IsGapOrRow, IsOfRow};
+ghost use Rattle.book_plans.specs.Ways.{accepting_obstacle, changed_row, fitting_accepting, fitting_sending, sending_in, sending_obstacle};
+ghost use Rattle.book_scope_plan.specs.CalendarTexts.{row_numbered};
+ghost use Rattle.book_scope_plan.specs.FindingTexts.{Facing, facing_at};
+ghost use Rattle.book_scope_plan.specs.WayTexts.{longer_over, may_lengthen, may_shorten, sending_way};
+ghost use Rattle.law_plans.specs.Own.{IsGapOrRow, IsMended, IsOfRow, changed_at, far_end};
 
 /// Where each finding on a plan is a gap of an end or on its row of one number, and nothing stands in the way of
 /// another send lifetime of that row, then with that lifetime the end's table is valid, and the judgement is
@@ -44,4 +50,28 @@ pub fn accepting_ways_mend()
         → accepting_obstacle a m o (fitting_accepting plan.lead plan.lag r o) ≡ None
         → IsValid (changed_row (accepting_in (fitting_accepting plan.lead plan.lag r o)) m 1 a)
         × (lint_rows (changed_row (accepting_in (fitting_accepting plan.lead plan.lag r o)) m 1 a) b pair plan ≡ answer.Aligned) }
+{}
+
+/// Where a plan has one finding, the way out that the text of that finding calls `set` mends it: of a row that isn't
+/// taken for long enough its shorter life to send, or the longer life to accept of a row that takes it; of a gap the
+/// longer life to send of a row beside it. Then both tables are valid, and the judgement is `Aligned`.
+pub fn told_ways_mend()
+    ensures shorter { (f : Facing) (e : End) (n : ℕ) (r o : Row)
+        → 1 ≤ n → row_numbered (facing_at e f).node.rows n ≡ Some r → IsValid f.node.rows → IsValid f.other.rows
+        → findings f.node.rows f.other.rows f.pair f.plan ≡ finding.ShortAccept e n ∷ []
+        → may_shorten (facing_at e f) (record { number = n; row = r }) o ≡ true
+        → IsMended (changed_at e (sending_in (fitting_sending f.plan.lead f.plan.lag r o)) n f) }
+    ensures longer { (f : Facing) (e : End) (n k : ℕ) (r o : Row)
+        → 1 ≤ n → row_numbered (facing_at e f).node.rows n ≡ Some r → IsOrdered r
+        → 1 ≤ k → row_numbered (facing_at e f).other.rows k ≡ Some o → IsValid f.node.rows → IsValid f.other.rows
+        → findings f.node.rows f.other.rows f.pair f.plan ≡ finding.ShortAccept e n ∷ []
+        → is_alike (differences (facing_at e f).pair r o) ≡ true
+        → may_lengthen (facing_at e f) (record { number = n; row = r }) k o ≡ true
+        → IsMended (changed_at (far_end e) (accepting_in (fitting_accepting f.plan.lead f.plan.lag r o)) k f) }
+    ensures over_gap { (f : Facing) (e : End) (n first last : ℕ) (r : Row) (l : Lifetime)
+        → 1 ≤ n → row_numbered (facing_at e f).node.rows n ≡ Some r → IsValid f.node.rows → IsValid f.other.rows
+        → findings f.node.rows f.other.rows f.pair f.plan ≡ finding.Gap e first last ∷ []
+        → longer_over (facing_at e f) (record { first = first; last = last }) r ≡ Some l
+        → sending_way (facing_at e f) n r l ≡ None
+        → IsMended (changed_at e (sending_in l) n f) }
 {}

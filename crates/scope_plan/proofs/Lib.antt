@@ -1,2 +1,3 @@
 mod PlannedLaws
 pub mod ReportLaws
+mod WayLaws

@@ -68,18 +68,17 @@ fn push_judgement(
     out: &mut Vec<u8>,
     facing: &Facing,
     tables: &Tables,
-    plan: &Plan,
     findings: &[Finding],
 ) -> Result<(), AllocError>
-    ensures { OnOk result (out.new.items ≡ out.old.items ++ findings_text (facing_of facing.now) tables.now plan.now findings.now) }
+    ensures { OnOk result (out.new.items ≡ out.old.items ++ findings_text (facing_of facing.now) tables.now findings.now) }
 {
     match findings {
         [] => {
-            let lead = lead_margin(tables, &facing.pair, plan.lag);
-            let lag = lag_margin(tables, &facing.pair, plan.lead);
+            let lead = lead_margin(tables, &facing.pair, facing.plan.lag);
+            let lag = lag_margin(tables, &facing.pair, facing.plan.lead);
             push_aligned(out, lead, lag)
         }
-        [_, ..] => push_findings(out, facing, plan, findings),
+        [_, ..] => push_findings(out, facing, findings),
     }
 }
 
@@ -103,20 +102,15 @@ fn push_both(
     keys: &KeyFile,
     plan: &Plan,
 ) -> Result<bool, AllocError>
-    ensures text { OnOk result (out.new.items ≡ out.old.items ++ both_text (facing (key_file_of keys.now) ends.now.tables.a.now ends.now.tables.b.now ends.now.pair) keys.now.tables plan.now) }
+    ensures text { OnOk result (out.new.items ≡ out.old.items ++ both_text (facing (key_file_of keys.now) ends.now.tables.a.now ends.now.tables.b.now plan.now ends.now.pair) keys.now.tables) }
     ensures good { IfOk result (λ good. good ≡ has_none (plan_findings keys.now.tables plan.now ends.now.pair)) }
 {
     let tables = &keys.tables;
     let turns = calendar(alloc, tables, &ends.pair, plan.from, plan.to)?;
     push_calendar(alloc, out, ends, turns.as_slice())?;
     let findings = findings_by(alloc, tables, &ends.pair, plan)?;
-    push_judgement(
-        out,
-        &Facing::new(keys, ends),
-        tables,
-        plan,
-        findings.as_slice(),
-    )?;
+    let facing = Facing::new(keys, ends, plan);
+    push_judgement(out, &facing, tables, findings.as_slice())?;
     Ok(has_none(findings.as_slice()))
 }
 

@@ -7,29 +7,32 @@ ghost use Rattle.scope_plan.specs.KeyFiles.{key_file_of};
 
 use crate::key_file::KeyFile;
 use book_base::{End, Pair};
+use book_cmd_keys::Plan;
 use draw_plan::Connected;
 use key_table::{Table, mirrored};
 
 /// A connection as one of its ends sees it: the document that the key file is, the table of its node, that
-/// of the other end's, and the pair.
+/// of the other end's, the pair, and what is asked of the plan.
 #[derive(Clone, Copy)]
 pub(crate) struct Facing<'a> {
     pub(crate) document: &'a toml::Table,
     pub(crate) node: &'a Table,
     pub(crate) other: &'a Table,
     pub(crate) pair: Pair,
+    pub(crate) plan: Plan,
 }
 
 impl<'a> Facing<'a> {
     /// The connection as end A sees it.
-    pub(crate) fn new(keys: &'a KeyFile, ends: &Connected<'a>) -> Facing<'a>
-        ensures { facing_of result ≡ facing (key_file_of keys.now) ends.now.tables.a.now ends.now.tables.b.now ends.now.pair }
+    pub(crate) fn new(keys: &'a KeyFile, ends: &Connected<'a>, plan: &Plan) -> Facing<'a>
+        ensures { facing_of result ≡ facing (key_file_of keys.now) ends.now.tables.a.now ends.now.tables.b.now plan.now ends.now.pair }
     {
         Facing {
             document: &keys.document,
             node: ends.tables.a,
             other: ends.tables.b,
             pair: ends.pair,
+            plan: *plan,
         }
     }
 
@@ -44,6 +47,7 @@ impl<'a> Facing<'a> {
                 node: self.other,
                 other: self.node,
                 pair: mirrored(&self.pair),
+                plan: self.plan,
             },
         }
     }

@@ -1,17 +1,18 @@
 //! What is said of each finding.
 ghost use Rattle.std.specs.Prelude.{◌≡◌, ◌++◌, OnOk, flat_map};
 ghost use Rattle.book_scope_plan.specs.CalendarTexts.{row_numbered};
-ghost use Rattle.book_scope_plan.specs.FindingTexts.{finding_text, gap_text, refused_text, seconds_between, seconds_text, sent_id_text, short_text, short_words, times_text, unmet_line};
+ghost use Rattle.book_scope_plan.specs.FindingTexts.{refused_text, sent_id_text, short_words, unmet_line};
+ghost use Rattle.book_scope_plan.specs.WayTexts.{finding_text, short_text};
 ghost use Rattle.scope_plan.specs.Facings.{facing_of};
 
 use crate::differences::{fewest, push_nearest, push_sent};
 use crate::facing::Facing;
-use crate::lifetimes::push_short;
-use ao_base::push_decimal;
-use book_cmd_keys::Plan;
+use crate::gap::push_gap;
+use crate::short::{SentRow, push_short};
+use book_scope_plan::GapSeconds;
 use key_plan::Finding;
 use key_table::Row;
-use plan_texts::{push_row_name, push_times, row_numbered};
+use plan_texts::{push_row_name, row_numbered};
 use std::alloc::AllocError;
 
 /// With which id a row sends.
@@ -65,69 +66,27 @@ fn short_words() -> &'static [u8]
 }
 
 /// A row that no row of the other end accepts for long enough.
-fn push_too_short(
-    out: &mut Vec<u8>,
-    facing: &Facing,
-    plan: &Plan,
-    number: u8,
-) -> Result<(), AllocError>
-    ensures { OnOk result (out.new.items ≡ out.old.items ++ short_text (facing_of facing.now) plan.now number (row_numbered facing.now.node.now.rows number)) }
+fn push_too_short(out: &mut Vec<u8>, facing: &Facing, number: u8) -> Result<(), AllocError>
+    ensures { OnOk result (out.new.items ≡ out.old.items ++ short_text (facing_of facing.now) number (row_numbered facing.now.node.now.rows number)) }
 {
     match row_numbered(facing.node, number) {
         Some(row) => {
             push_unmet(out, facing, number, row, short_words())?;
-            push_short(out, facing, plan, row)
+            push_short(out, facing, &SentRow { number, row })
         }
         None => Ok(()),
     }
 }
 
-/// The seconds from one to another, both included.
-fn seconds_between(first: u64, last: u64) -> u64
-    ensures { result ≡ seconds_between first last }
-{
-    if first > last {
-        0
-    } else {
-        (last - first).saturating_add(1)
-    }
-}
-
-#[tactic(auto, unfolding(book_scope_plan::specs::FindingTexts::seconds_text))]
-fn push_seconds(out: &mut Vec<u8>, first: u64, last: u64) -> Result<(), AllocError>
-    ensures { OnOk result (out.new.items ≡ out.old.items ++ seconds_text first last) }
-{
-    out.extend_from_slice(b", ")?;
-    push_decimal(out, seconds_between(first, last))?;
-    out.extend_from_slice(b" s\n")
-}
-
-fn push_gap(out: &mut Vec<u8>, name: &[u8], first: u64, last: u64) -> Result<(), AllocError>
-    ensures { OnOk result (out.new.items ≡ out.old.items ++ gap_text name.now first last) }
-{
-    out.extend_from_slice(b"  WRONG ")?;
-    out.extend_from_slice(name)?;
-    out.extend_from_slice(b" has no row to send with from ")?;
-    push_times(out, first, last)?;
-    push_seconds(out, first, last)?;
-    Ok(())
-}
-
 /// What is said of a finding.
-fn push_finding(
-    out: &mut Vec<u8>,
-    facing: &Facing,
-    plan: &Plan,
-    finding: Finding,
-) -> Result<(), AllocError>
-    ensures { OnOk result (out.new.items ≡ out.old.items ++ finding_text (facing_of facing.now) plan.now finding) }
+fn push_finding(out: &mut Vec<u8>, facing: &Facing, finding: Finding) -> Result<(), AllocError>
+    ensures { OnOk result (out.new.items ≡ out.old.items ++ finding_text (facing_of facing.now) finding) }
 {
     match finding {
         Finding::NoPeerRow(end, number) => push_refused(out, &facing.at(end), number),
-        Finding::ShortAccept(end, number) => push_too_short(out, &facing.at(end), plan, number),
+        Finding::ShortAccept(end, number) => push_too_short(out, &facing.at(end), number),
         Finding::Gap(end, first, last) => {
-            let at = facing.at(end);
-            push_gap(out, at.node.name(), first, last)
+            push_gap(out, &facing.at(end), GapSeconds { first, last })
         }
     }
 }
@@ -136,13 +95,12 @@ fn push_finding(
 pub(crate) fn push_findings(
     out: &mut Vec<u8>,
     facing: &Facing,
-    plan: &Plan,
     findings: &[Finding],
 ) -> Result<(), AllocError>
-    ensures { OnOk result (out.new.items ≡ out.old.items ++ flat_map (finding_text (facing_of facing.now) plan.now) findings.now) }
+    ensures { OnOk result (out.new.items ≡ out.old.items ++ flat_map (finding_text (facing_of facing.now)) findings.now) }
 {
     for finding in findings {
-        push_finding(out, facing, plan, *finding)?;
+        push_finding(out, facing, *finding)?;
     }
     Ok(())
 }

@@ -9,11 +9,14 @@ mod differences;
 mod drawn;
 mod facing;
 mod findings;
+mod gap;
 mod key_file;
 mod lifetimes;
 mod planned;
 mod plans;
+mod short;
 mod told;
+mod ways;
 
 pub use key_file::{KeyFile, read_key_file};
 pub use plans::answer_plan;

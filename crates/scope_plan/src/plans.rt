@@ -81,8 +81,8 @@ fn plan_input(
 /// - each time after `from` until `to` at which a row begins or ends to be accepted or sent with, or begins
 ///   to be asked for, in order, with the name of the node, or those of both where both turn alike;
 /// - each finding of `key_plan::findings` for the plan's lead and lag, in order, with the columns in which
-///   the nearest rows differ, or what a lifetime is to be set to; behind the number of a row stands what the
-///   operator calls it, its AdminKeyName;
+///   the nearest rows differ, or what a lifetime is to be set to, or what stands in the way of that; behind
+///   the number of a row stands what the operator calls it, its AdminKeyName;
 /// - or, where there is none, `aligned` with the greatest lead and lag for which it stays so.
 ///
 /// Of a connection with an address that no node has it is only said so. A finding or such an address is
