@@ -21,7 +21,7 @@ use Rattle.book_sessions.specs.declared.uses.SeenPass.{SeenPass}
 use Rattle.book_sessions.specs.declared.uses.SeenSegment.{SeenSegment}
 use Rattle.book_sessions.specs.Laps.{Judging}
 use Rattle.book_sessions.specs.Listening.{Listened, Listening, listen, listening_behind}
-use Rattle.book_sessions.specs.Sessions.{ids_found, seen_pass, stored_of_packet}
+use Rattle.book_sessions.specs.Sessions.{ids_found, protection_of, seen_pass, stored_of_packet}
 use Rattle.book_sessions.specs.SessionTexts.{is_of_session}
 use Rattle.book_draw_session.specs.declared.rung.SessionEnds.{SessionEnds}
 use Rattle.book_draw_session.specs.declared.rung.SessionRung.{SessionRung}
@@ -40,6 +40,7 @@ session_rung packet time d said pass = record {
   acknowledgement = d.acknowledgement;
   length = length d.payload;
   ids = ids_found (find_ao d.area);
+  protection = protection_of d.area;
   outcome = said;
   pass = pass;
 }
@@ -146,6 +147,7 @@ seen_of r = record {
   source = r.source;
   destination = r.destination;
   ids = r.ids;
+  protection = r.protection;
   bits = bits_set r.flags;
   outcome = r.outcome;
   pass = r.pass;

@@ -1,6 +1,6 @@
 //! The rungs of a session's ladder.
 use book_base::Socket;
-use book_sessions::{KeyIds, SeenPass, SegmentOutcome};
+use book_sessions::{KeyIds, Protection, SeenPass, SegmentOutcome};
 
 /// A segment of a capture, as it is drawn.
 #[derive(Clone, Copy, Debug, PartialEq, Eq)]
@@ -21,6 +21,8 @@ pub struct SessionRung {
     pub length: u64,
     /// Its ids, where it has one TCP-AO option.
     pub ids: Option<KeyIds>,
+    /// How it is protected.
+    pub protection: Protection,
     /// What comes of it.
     pub outcome: SegmentOutcome,
     /// What the check found of it, where it is verified.

@@ -358,7 +358,7 @@ pub frees_none : (tables : List Table) (t : Table) (n : ℕ) (r : Row) (latest :
     → may_go (evidence_at latest (and_segment found s table)) tables t n r ≡ go.Yes → may_go (evidence_at latest table) tables t n r ≡ go.Yes
 frees_none tables t n r latest table s found last none = at found
   where
-    by : (k : ℕ) → may_go (evidence_at latest (record { sessions = k; uses = with_use k (signs_of s table.uses) s table.uses; passed = table.passed })) tables t n r ≡ go.Yes → may_go (evidence_at latest table) tables t n r ≡ go.Yes
+    by : (k : ℕ) → may_go (evidence_at latest (record { sessions = k; uses = with_use k (signs_of s table.uses) s table.uses; passed = table.passed; unset = table.unset })) tables t n r ≡ go.Yes → may_go (evidence_at latest table) tables t n r ≡ go.Yes
     by k = yes_leads _ _ tables t n r (free_leads tables t n r latest (evidence_of table).doubt table.uses (with_use k (signs_of s table.uses) s table.uses) (rw none (grown_by s k table.uses last)))
 
     at : (o : Option ℕ) → may_go (evidence_at latest (and_segment o s table)) tables t n r ≡ go.Yes → may_go (evidence_at latest table) tables t n r ≡ go.Yes

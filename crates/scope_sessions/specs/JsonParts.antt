@@ -27,6 +27,11 @@ asked_members u = json_member (codes "last") (time_json u.last)
     ∷ json_member (codes "asks") (id_json u.asked)
     ∷ json_member (codes "packet") (decimal u.packet) ∷ []
 
+-- of segments: when the last was seen, and what they ask for
+abbrev pub late_members : KeyUse → List (List ℕ)
+late_members u = json_member (codes "last") (time_json u.last)
+    ∷ json_member (codes "asks") (id_json u.asked) ∷ []
+
 -- of the last use of a row: its time and its packet
 abbrev pub seen_members : KeyUse → List (List ℕ)
 seen_members u = json_member (codes "at") (time_json u.last)

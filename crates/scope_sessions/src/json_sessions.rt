@@ -5,7 +5,7 @@ ghost use Rattle.book_sessions.specs.declared.uses.KeyUse.{KeyUse as Use};
 ghost use Rattle.book_sessions.specs.SessionTexts.{is_of_session, opens_session};
 ghost use Rattle.book_sessions_json.specs.Json.{json_array, json_bool, json_items, json_member};
 ghost use Rattle.book_sessions_json.specs.SessionJson.{end_json, heading_json, numbers_to, protection_word, sender_place, session_json, use_json, uses_json};
-ghost use Rattle.scope_sessions.specs.JsonParts.{asked_members, sender_members, span_members};
+ghost use Rattle.scope_sessions.specs.JsonParts.{asked_members, late_members, sender_members, span_members};
 
 use crate::json_values::{
     push_address_text, push_bool, push_comma, push_id, push_name, push_string, push_time,
@@ -87,19 +87,33 @@ fn push_span(alloc: Global, out: &mut Vec<u8>, one: &KeyUse) -> Result<(), Alloc
     push_time(alloc, out, one.first)
 }
 
+// Puts when the last of segments was seen, and what they ask for, behind `out`.
+fn push_late(alloc: Global, out: &mut Vec<u8>, one: &KeyUse) -> Result<(), AllocError>
+    ensures { OnOk result (out.new.items ≡ out.old.items ++ json_items false (late_members one.now)) }
+{
+    push_name(out, b',', b"last")?;
+    push_time(alloc, out, one.last)?;
+    push_name(out, b',', b"asks")?;
+    push_id(out, one.asked)
+}
+
+// Puts the last packet of segments behind `out`, as the last member.
+fn push_packet(out: &mut Vec<u8>, packet: u64) -> Result<(), AllocError>
+    ensures { OnOk result (out.new.items ≡ out.old.items ++ (44 ∷ json_member (codes "packet") (decimal packet) ++ 125 ∷ [])) }
+{
+    push_name(out, b',', b"packet")?;
+    push_decimal(out, packet)?;
+    out.push(b'}')?;
+    Ok(())
+}
+
 // Puts the last members of segments behind `out`: when the last was seen, what they ask for, and the last
 // packet.
 fn push_asked(alloc: Global, out: &mut Vec<u8>, one: &KeyUse) -> Result<(), AllocError>
     ensures { OnOk result (out.new.items ≡ out.old.items ++ (json_items false (asked_members one.now) ++ 125 ∷ [])) }
 {
-    push_name(out, b',', b"last")?;
-    push_time(alloc, out, one.last)?;
-    push_name(out, b',', b"asks")?;
-    push_id(out, one.asked)?;
-    push_name(out, b',', b"packet")?;
-    push_decimal(out, one.packet)?;
-    out.push(b'}')?;
-    Ok(())
+    push_late(alloc, out, one)?;
+    push_packet(out, one.packet)
 }
 
 fn push_use(
