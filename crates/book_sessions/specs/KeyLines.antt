@@ -1,11 +1,11 @@
 -- The lines of the rows of a key file: who used each last, who asks for it, whether it may go, and
 -- what stands in the way. Our own format. Its top is `keys_lines`.
-use Rattle.std.specs.Prelude.{ℕ, suc, ◌&&◌, ◌||◌, nat_lt, Bool, not, true, false, List, [], ◌∷◌}
+use Rattle.std.specs.Prelude.{ℕ, suc, ◌&&◌, nat_lt, Bool, not, true, false, List, [], ◌∷◌}
 use Rattle.std.specs.Prelude.{◌++◌, codes, decimal, Option, Some, None, if◌then◌else◌}
 use Rattle.std.specs.List.{find, flat_map, list_any}
 use Rattle.toml.specs.Data.{Members}
 use Rattle.book_base.specs.declared.address.Address.{Address}
-use Rattle.book_keys.specs.Rows.{Row, Table, names}
+use Rattle.book_keys.specs.Rows.{Row, Table}
 use Rattle.book_lines.specs.Texts.{line_text}
 use Rattle.book_scope_plan.specs.AdminNames.{KeyFile, admin_name}
 use Rattle.book_scope_plan.specs.FindingTexts.{admin_text}
@@ -17,8 +17,8 @@ use Rattle.book_sessions.specs.declared.uses.KeyUse.{KeyUse}
 use Rattle.book_sessions.specs.OutcomeTexts.{is_verified}
 use Rattle.book_sessions.specs.Retiring.{Evidence, all_without, asks_for_row, carries_row}
 use Rattle.book_sessions.specs.Retiring.{goes_from, goes_without, does_without}
-use Rattle.book_sessions.specs.Retiring.{is_at_row, leaves_use, may_go}
-use Rattle.book_sessions.specs.Retiring.{sent_by, sent_to, wants_row}
+use Rattle.book_sessions.specs.Retiring.{is_at_row, is_of_peer, leaves_use, may_go}
+use Rattle.book_sessions.specs.Retiring.{shows_peer, wants_row}
 
 -- of these and others, if there are some, those with the later packet (own)
 abbrev pub later_of : KeyUse → Option KeyUse → KeyUse
@@ -102,19 +102,19 @@ held_line e t n r u = if not (goes_without (wants_row t n r) e.uses u)
 abbrev pub held_line_at : Evidence → Table → (n : ℕ) → Row → KeyUse → List ℕ
 held_line_at e t n r u = if is_at_row t r u then held_line e t n r u else []
 
--- these are between the node and this peer (own)
-abbrev pub is_of_peer : Table → Row → Option Address → KeyUse → Bool
-is_of_peer t r p u = (sent_by t r u && names p u.destination.address)
-    || (sent_to t r u && names p u.source.address)
-
 -- a peer of the row wasn't seen (own)
 abbrev pub absent_text : Option Address → List ℕ
 absent_text None = obstacle_line (codes "no peer seen" ∷ [])
 absent_text (Some address) = unseen_line address
 
+-- these are of the peer; once all at the row does without it, they show the peer too (own)
+abbrev pub tells_peer : Evidence → Table → Row → (without : Bool) → Option Address → KeyUse → Bool
+tells_peer e t r without p u = if without then shows_peer e.uses t r p u else is_of_peer t r p u
+
 -- the same, if it wasn't (own)
-abbrev pub absent_line : Evidence → Table → Row → Option Address → List ℕ
-absent_line e t r p = if list_any (is_of_peer t r p) e.live then [] else absent_text p
+abbrev pub absent_line : Evidence → Table → Row → (without : Bool) → Option Address → List ℕ
+absent_line e t r without p =
+    if list_any (tells_peer e t r without p) e.live then [] else absent_text p
 
 -- where the row goes, the two ends of these lack a row to send with (own)
 abbrev pub lacking_line : Evidence → List Table → Table → Row → KeyUse → List ℕ
@@ -136,7 +136,7 @@ doubt_line doubt =
 abbrev pub obstacle_lines : Evidence → List Table → Table → (n : ℕ) → Row → List ℕ
 obstacle_lines e tables t n r =
     flat_map (held_line_at e t n r) e.live
-    ++ (flat_map (absent_line e t r) r.peers
+    ++ (flat_map (absent_line e t r (all_without e t n r)) r.peers
     ++ (lines_without e tables t r (all_without e t n r) ++ doubt_line e.doubt))
 
 -- ---- a row

@@ -23,7 +23,7 @@ use Rattle.book_sessions.specs.declared.retiring.Wanting.{Wanting}
 use Rattle.book_sessions.specs.declared.uses.FlowIsns.{FlowIsns}
 use Rattle.book_sessions.specs.declared.uses.KeyUse.{KeyUse}
 use Rattle.book_sessions.specs.OutcomeTexts.{is_doubtful, is_verified}
-use Rattle.book_sessions.specs.Sessions.{SessionTable}
+use Rattle.book_sessions.specs.Sessions.{SessionTable, knows_both}
 
 -- ---- what is of a row
 
@@ -188,15 +188,27 @@ abbrev pub both_without : (KeyUse → Bool) → List KeyUse → KeyUse → Bool
 both_without wants uses u = does_without wants u.source u.destination uses
     && does_without wants u.destination u.source uses
 
--- these are of a connection that goes on, and moved on, between the node and this peer (own)
-abbrev pub shows_peer : Table → Row → Option Address → KeyUse → Bool
-shows_peer t r p u = nat_lt 0 u.moved
-    && ((sent_by t r u && names p u.destination.address)
-    || (sent_to t r u && names p u.source.address))
+-- these passed between the sockets of the first, in another connection (RFC 9293, section 3.4.1)
+abbrev pub is_elsewhere : (one other : KeyUse) → Bool
+is_elsewhere u v = (goes_from u.source u.destination v || goes_from u.destination u.source v)
+    && (knows_both v.isns && not (is_onward u v || is_return u v))
+
+-- behind the last that moved on of these, another connection was seen between their sockets (own)
+abbrev pub is_followed : List KeyUse → KeyUse → Bool
+is_followed uses u = list_any (λ v. is_elsewhere u v && nat_lt u.moved v.packet) uses
+
+-- these are between the node and this peer (own)
+abbrev pub is_of_peer : Table → Row → Option Address → KeyUse → Bool
+is_of_peer t r p u = (sent_by t r u && names p u.destination.address)
+    || (sent_to t r u && names p u.source.address)
+
+-- these moved on between the node and this peer, and no other connection followed (own)
+abbrev pub shows_peer : List KeyUse → Table → Row → Option Address → KeyUse → Bool
+shows_peer uses t r p u = (nat_lt 0 u.moved && not (is_followed uses u)) && is_of_peer t r p u
 
 -- each peer that the row names was seen (own)
-abbrev pub sees_peers : Table → Row → (live : List KeyUse) → Bool
-sees_peers t r live = list_all (λ p. list_any (shows_peer t r p) live) r.peers
+abbrev pub sees_peers : (uses live : List KeyUse) → Table → Row → Bool
+sees_peers uses live t r = list_all (λ p. list_any (shows_peer uses t r p) live) r.peers
 
 -- ---- what is left
 
@@ -282,12 +294,12 @@ is_in_use e t n r = list_any
 abbrev pub all_left : Evidence → List Table → Table → Row → Bool
 all_left e tables t r = list_all (leaves_use tables t r e.latest) e.live
 
--- the row may go: each peer that it names was seen in a connection that goes on; both sides of all
--- of these do without it; the rows that are left send in its place; and no packet was passed over
--- that may be a segment (own)
+-- the row may go: each peer that it names was seen in a connection that goes on, and that no other
+-- followed; both sides of all that go on do without it; the rows that are left send in its place;
+-- and no packet was passed over that may be a segment (own)
 abbrev pub is_dispensable : Evidence → List Table → Table → (n : ℕ) → Row → Bool
 is_dispensable e tables t n r =
-    (sees_peers t r e.live && all_without e t n r) && (all_left e tables t r && not e.doubt)
+    (sees_peers e.uses e.live t r && all_without e t n r) && (all_left e tables t r && not e.doubt)
 
 -- whether row number n of a node may go (own)
 unfoldable pub may_go : Evidence → List Table → Table → (n : ℕ) → Row → MayGo

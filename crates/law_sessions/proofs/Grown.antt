@@ -15,7 +15,7 @@ use Rattle.book_sessions.specs.Counts.{no_signs}
 use Rattle.book_sessions.specs.OutcomeTexts.{is_verified}
 use Rattle.book_sessions.specs.declared.retiring.Ending.{Ending}
 use Rattle.book_sessions.specs.declared.retiring.Wanting.{Wanting}
-use Rattle.book_sessions.specs.Retiring.{Evidence, all_left, all_without, and_ending, asks_for_row, both_without, came_under, carries_row, does_without, ending_by, evidence_of, goes_from, is_at_row, is_counted, is_ended, is_dispensable, is_id, is_in_use, is_live, is_onward, is_outlived, is_return, leaves_use, may_go, sees_peers, sent_by, sent_to, shows_peer, wanting_by, wants_row, with_mark}
+use Rattle.book_sessions.specs.Retiring.{Evidence, all_left, all_without, and_ending, asks_for_row, both_without, came_under, carries_row, does_without, ending_by, evidence_of, goes_from, is_at_row, is_counted, is_elsewhere, is_ended, is_dispensable, is_followed, is_id, is_in_use, is_live, is_of_peer, is_onward, is_outlived, is_return, leaves_use, may_go, sees_peers, sent_by, sent_to, shows_peer, wanting_by, wants_row, with_mark}
 use Rattle.book_sessions.specs.Sessions.{SessionTable, and_segment, first_use, is_use_of, session_of, signs_of, used_again, with_use}
 use Rattle.law_sessions.specs.Old.{IsLast, evidence_at}
 
@@ -279,6 +279,25 @@ module _ (p q : KeyUse → Bool) where
       at true others = (G.0, others)
       at false others = others
 
+-- ---- another connection
+
+elsewhere_same : (u v x y : KeyUse) → Alike u v → Alike x y → is_elsewhere v y ≡ is_elsewhere u x
+elsewhere_same u v x y A B = rw (A.source, A.destination, A.isns, B.source, B.destination, B.isns) refl
+
+later_leads : (u v x y : KeyUse) → Alike u v → Alike x y → Leads (nat_lt u.moved x.packet) (nat_lt v.moved y.packet)
+later_leads u v x y A B = at u.moved v.moved x.packet y.packet A.moved B.packet
+  where
+    at : (a b c d : ℕ) → b ≡ a → c ≤ d → Leads (nat_lt a c) (nat_lt b d)
+    at a b c d same h e = grind (arith, nat_tests)
+
+followed_leads : (u v : KeyUse) → Alike u v → (us vs : List KeyUse) → Grown us vs → Leads (is_followed us u) (is_followed vs v)
+followed_leads u v A [] vs G e = absurd (cc)
+followed_leads u v A (x ∷ us) [] G e = absurd G
+followed_leads u v A (x ∷ us) (y ∷ vs) G e =
+    or_leads (is_elsewhere u x && nat_lt u.moved x.packet) (is_followed us u) (is_elsewhere v y && nat_lt v.moved y.packet) (is_followed vs v)
+    (and_leads (is_elsewhere u x) (nat_lt u.moved x.packet) (is_elsewhere v y) (nat_lt v.moved y.packet) (λ e. elsewhere_same u v x y A G.0 ∙ e) (later_leads u v x y A G.0))
+    (followed_leads u v A us vs G.1) e
+
 -- ---- all of them, and some of them
 
 all_leads : (f g : KeyUse → Bool) → ((u v : KeyUse) → Alike u v → Leads (g v) (f u)) → (us vs : List KeyUse) → Grown us vs → Leads (list_all g vs) (list_all f us)
@@ -311,15 +330,23 @@ module _ (tables : List Table) (t : Table) (n : ℕ) (r : Row) (latest : ℕ) (d
   live_grown : Grown (filter (is_live us) us) (filter (is_live vs) vs)
   live_grown = filtered (is_live us) (is_live vs) us vs (λ u v A. live_same us vs G u v A) G
 
-  shows_leads : (p : Option Address) (u v : KeyUse) → Alike u v → Leads (shows_peer t r p v) (shows_peer t r p u)
-  shows_leads p u v A e = rw (A.moved, A.source, A.destination) at e
+  of_peer_same : (p : Option Address) (u v : KeyUse) → Alike u v → Leads (is_of_peer t r p v) (is_of_peer t r p u)
+  of_peer_same p u v A e = rw (A.source, A.destination) at e
 
-  shows_none : (p : Option Address) (v : KeyUse) → IsQuiet v → shows_peer t r p v ≡ false
+  moved_same : (u v : KeyUse) → Alike u v → Leads (nat_lt 0 v.moved) (nat_lt 0 u.moved)
+  moved_same u v A e = rw A.moved at e
+
+  shows_leads : (p : Option Address) (u v : KeyUse) → Alike u v → Leads (shows_peer vs t r p v) (shows_peer us t r p u)
+  shows_leads p u v A = and_leads (nat_lt 0 v.moved && not (is_followed vs v)) (is_of_peer t r p v) (nat_lt 0 u.moved && not (is_followed us u)) (is_of_peer t r p u)
+      (and_leads (nat_lt 0 v.moved) (not (is_followed vs v)) (nat_lt 0 u.moved) (not (is_followed us u)) (moved_same u v A)
+      (not_turned (is_followed us u) (is_followed vs v) (followed_leads u v A us vs G))) (of_peer_same p u v A)
+
+  shows_none : (p : Option Address) (v : KeyUse) → IsQuiet v → shows_peer vs t r p v ≡ false
   shows_none p v Q = rw Q.moved refl
 
-  sees_leads : Leads (sees_peers t r after.live) (sees_peers t r before.live)
-  sees_leads = peers_leads (λ p. list_any (shows_peer t r p) before.live) (λ p. list_any (shows_peer t r p) after.live)
-      (λ p. any_leads (shows_peer t r p) (shows_peer t r p) (shows_leads p) (shows_none p) before.live after.live live_grown) r.peers
+  sees_leads : Leads (sees_peers vs after.live t r) (sees_peers us before.live t r)
+  sees_leads = peers_leads (λ p. list_any (shows_peer us t r p) before.live) (λ p. list_any (shows_peer vs t r p) after.live)
+      (λ p. any_leads (shows_peer us t r p) (shows_peer vs t r p) (shows_leads p) (shows_none p) before.live after.live live_grown) r.peers
 
   at_row_same : (u v : KeyUse) → Alike u v → is_at_row t r v ≡ is_at_row t r u
   at_row_same u v A = rw (A.source, A.destination) refl
@@ -336,9 +363,9 @@ module _ (tables : List Table) (t : Table) (n : ℕ) (r : Row) (latest : ℕ) (d
   left_all = all_leads (leaves_use tables t r latest) (leaves_use tables t r latest) left_leads before.live after.live live_grown
 
   free_leads : Leads (is_dispensable after tables t n r) (is_dispensable before tables t n r)
-  free_leads = and_leads (sees_peers t r after.live && all_without after t n r) (all_left after tables t r && not doubt)
-      (sees_peers t r before.live && all_without before t n r) (all_left before tables t r && not doubt)
-      (and_leads (sees_peers t r after.live) (all_without after t n r) (sees_peers t r before.live) (all_without before t n r) sees_leads without_all)
+  free_leads = and_leads (sees_peers vs after.live t r && all_without after t n r) (all_left after tables t r && not doubt)
+      (sees_peers us before.live t r && all_without before t n r) (all_left before tables t r && not doubt)
+      (and_leads (sees_peers vs after.live t r) (all_without after t n r) (sees_peers us before.live t r) (all_without before t n r) sees_leads without_all)
       (and_leads (all_left after tables t r) (not doubt) (all_left before tables t r) (not doubt) left_all (λ e. e))
 
 free_if : (free used : Bool) → (if free then go.Yes else if used then go.No else go.Unknown) ≡ go.Yes → free ≡ true

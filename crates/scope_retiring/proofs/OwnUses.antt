@@ -1,5 +1,5 @@
 -- What is told of a use by those of its own session is what is told of it by all.
-use Rattle.std.proofs.Common.{◌≡◌, ℕ, ◌&&◌, ◌||◌, ◌==◌, Bool, true, false, List, [], ◌∷◌, Option, Some, None, refl, sym, ap, ◌∙◌, arith, if◌then◌else◌}
+use Rattle.std.proofs.Common.{◌≡◌, ℕ, ◌&&◌, ◌||◌, ◌==◌, nat_lt, Bool, true, false, List, [], ◌∷◌, Option, Some, None, refl, sym, ap, ◌∙◌, arith, if◌then◌else◌}
 use Rattle.std.specs.Prelude.{cond, filter, option_map}
 use Rattle.std.specs.List.{find, AllByRecursion}
 use Rattle.std.proofs.lemmas.Bool.Decides.{nat_tests}
@@ -10,7 +10,7 @@ use Rattle.book_segments.proofs.SocketLaws.{same_socket_is}
 use Rattle.book_sessions.specs.declared.retiring.Ending.{Ending}
 use Rattle.book_sessions.specs.declared.retiring.Wanting.{Wanting}
 use Rattle.book_sessions.specs.declared.uses.KeyUse.{KeyUse}
-use Rattle.book_sessions.specs.Retiring.{and_ending, and_wanting, ending_by, goes_from, if_both, is_onward, is_other_side, is_return, is_this_side, wanting_by}
+use Rattle.book_sessions.specs.Retiring.{and_ending, and_wanting, ending_by, goes_from, if_both, is_elsewhere, is_followed, is_onward, is_other_side, is_return, is_this_side, wanting_by}
 use Rattle.book_sessions.specs.SessionTexts.{is_of_session}
 use Rattle.session_index.specs.Places.{is_between, number_between}
 use Rattle.scope_retiring.specs.Known.{HaveSessions}
@@ -114,6 +114,21 @@ module _ (uses : List KeyUse) (u : KeyUse) (known : number_between u.source u.de
           → ending_by u (cond x (v ∷ filter (is_of_session u.session) us) (filter (is_of_session u.session) us)) ≡ ending_by u (v ∷ us)
       at true e m = ap (and_ending u v) m
       at false e m = rw (not_onward v h.0 e, not_return v h.0 e) m
+
+  not_elsewhere : (v : KeyUse) → number_between v.source v.destination uses ≡ Some v.session → is_of_session u.session v ≡ false → is_elsewhere u v ≡ false
+  not_elsewhere v h e =
+      let there = number_either u.destination u.source uses ∙ known in
+      rw (not_from uses u.source u.destination u.session known v h e, not_from uses u.destination u.source u.session there v h e) refl
+
+  -- whether another connection followed
+  pub own_followed : (us : List KeyUse) → HaveSessions uses us → is_followed (filter (is_of_session u.session) us) u ≡ is_followed us u
+  own_followed [] h = refl
+  own_followed (v ∷ us) h = at (is_of_session u.session v) refl (own_followed us h.1)
+    where
+      at : (x : Bool) → is_of_session u.session v ≡ x → is_followed (filter (is_of_session u.session) us) u ≡ is_followed us u
+          → is_followed (cond x (v ∷ filter (is_of_session u.session) us) (filter (is_of_session u.session) us)) u ≡ is_followed (v ∷ us) u
+      at true e m = ap (λ (b : Bool). (is_elsewhere u v && nat_lt u.moved v.packet) || b) m
+      at false e m = rw (not_elsewhere v h.0 e) m
 
 -- ---- those that pass a test
 

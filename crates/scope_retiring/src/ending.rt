@@ -49,7 +49,8 @@ fn are_other_side(one: Option<FlowIsns>, other: Option<FlowIsns>) -> bool
     }
 }
 
-fn is_onward(one: &KeyUse, other: &KeyUse) -> bool
+/// Whether the second are of the connection of the first, and go its way.
+pub(crate) fn is_onward(one: &KeyUse, other: &KeyUse) -> bool
     ensures { result ≡ is_onward one.now other.now }
 {
     (is_same_socket(&one.source, &other.source)
@@ -57,7 +58,8 @@ fn is_onward(one: &KeyUse, other: &KeyUse) -> bool
         && are_this_side(one.isns, other.isns)
 }
 
-fn is_return(one: &KeyUse, other: &KeyUse) -> bool
+/// Whether the second are of the connection of the first, and go the other way.
+pub(crate) fn is_return(one: &KeyUse, other: &KeyUse) -> bool
     ensures { result ≡ is_return one.now other.now }
 {
     (is_same_socket(&one.source, &other.destination)

@@ -5,6 +5,7 @@
 
 mod ending;
 mod evidence;
+mod following;
 mod left;
 mod live;
 mod peers;
@@ -16,7 +17,7 @@ mod without;
 
 pub use evidence::Evidence;
 pub use left::leaves_use;
-pub use peers::is_of_peer;
+pub use peers::{is_of_peer, sees_peer};
 pub use retiring::may_go;
 pub use rows_of::{asks_for_row, carries_row, is_at_row};
 pub use seen::{has_doubtful, is_verified, latest_seen};

@@ -2,8 +2,8 @@
 ghost use Rattle.std.specs.Prelude.{◌≡◌, ◌++◌, ◌∷◌, [], OnOk, codes};
 ghost use Rattle.std.specs.List.{flat_map, list_any};
 ghost use Rattle.book_scope_texts.specs.Addresses.{usual_address_text};
-ghost use Rattle.book_sessions.specs.KeyLines.{absent_line, absent_text, doubt_line, held_line, held_line_at, held_text, is_of_peer, lacking_line, lines_without, obstacle_by, obstacle_line, obstacle_lines, unanswered_line, unseen_line};
-ghost use Rattle.book_sessions.specs.Retiring.{all_without, goes_from};
+ghost use Rattle.book_sessions.specs.KeyLines.{absent_line, absent_text, doubt_line, held_line, held_line_at, held_text, lacking_line, lines_without, obstacle_by, obstacle_line, obstacle_lines, tells_peer, unanswered_line, unseen_line};
+ghost use Rattle.book_sessions.specs.Retiring.{all_without, goes_from, is_of_peer, shows_peer};
 ghost use Rattle.scope_retiring.specs.Known.{HasSession};
 
 use crate::session_texts::{push_host, push_time};
@@ -12,7 +12,7 @@ use book_sessions::KeyUse;
 use key_table::{Row, Table, Tables};
 use scope_retiring::{
     Evidence, all_without, asks_for_row, carries_row, goes_from, goes_without, is_at_row,
-    is_of_peer, is_verified, leaves_use, returns_without,
+    is_of_peer, is_verified, leaves_use, returns_without, sees_peer,
 };
 use std::alloc::AllocError;
 use text_lines::{push_field, push_newline, push_text};
@@ -141,10 +141,27 @@ fn push_no_peer(out: &mut Vec<u8>, peer: &Option<Address>) -> Result<(), AllocEr
     }
 }
 
-fn is_peer_seen(live: &[KeyUse], table: &Table, row: &Row, peer: &Option<Address>) -> bool
+fn is_peer_met(live: &[KeyUse], table: &Table, row: &Row, peer: &Option<Address>) -> bool
     ensures { result ≡ list_any (is_of_peer table.now row.now peer.now) live.now }
 {
     live.iter().any(|one| is_of_peer(table, row, peer, one))
+}
+
+// Whether the peer was seen; once all at the row does without it, in a connection that shows it.
+fn is_peer_told(
+    evidence: &Evidence,
+    table: &Table,
+    row: &Row,
+    without: bool,
+    peer: &Option<Address>,
+) -> bool
+    ensures { result ≡ list_any (tells_peer evidence.now table.now row.now without peer.now) evidence.now.live }
+{
+    if without {
+        sees_peer(evidence, table, row, peer)
+    } else {
+        is_peer_met(evidence.live(), table, row, peer)
+    }
 }
 
 fn push_absent(
@@ -152,11 +169,12 @@ fn push_absent(
     evidence: &Evidence,
     table: &Table,
     row: &Row,
+    without: bool,
     peer: &Option<Address>,
 ) -> Result<(), AllocError>
-    ensures { OnOk result (out.new.items ≡ out.old.items ++ absent_line evidence.now table.now row.now peer.now) }
+    ensures { OnOk result (out.new.items ≡ out.old.items ++ absent_line evidence.now table.now row.now without peer.now) }
 {
-    if is_peer_seen(evidence.live(), table, row, peer) {
+    if is_peer_told(evidence, table, row, without, peer) {
         Ok(())
     } else {
         push_no_peer(out, peer)
@@ -168,11 +186,12 @@ fn push_all_absent(
     evidence: &Evidence,
     table: &Table,
     row: &Row,
+    without: bool,
 ) -> Result<(), AllocError>
-    ensures { OnOk result (out.new.items ≡ out.old.items ++ flat_map (absent_line evidence.now table.now row.now) row.now.peers) }
+    ensures { OnOk result (out.new.items ≡ out.old.items ++ flat_map (absent_line evidence.now table.now row.now without) row.now.peers) }
 {
     for peer in row.peers() {
-        push_absent(out, evidence, table, row, peer)?;
+        push_absent(out, evidence, table, row, without, peer)?;
     }
     Ok(())
 }
@@ -224,13 +243,12 @@ fn push_lacking_lines(
     evidence: &Evidence,
     tables: &Tables,
     table: &Table,
-    number: u64,
     row: &Row,
+    without: bool,
 ) -> Result<(), AllocError>
-    ensures { OnOk result (out.new.items ≡ out.old.items ++ lines_without evidence.now tables.now table.now row.now
-        (all_without evidence.now table.now number row.now)) }
+    ensures { OnOk result (out.new.items ≡ out.old.items ++ lines_without evidence.now tables.now table.now row.now without) }
 {
-    if all_without(evidence, table, number, row) {
+    if without {
         push_all_lacking(out, evidence, tables, table, row)
     } else {
         Ok(())
@@ -258,8 +276,9 @@ pub(crate) fn push_obstacles(
 ) -> Result<(), AllocError>
     ensures { OnOk result (out.new.items ≡ out.old.items ++ obstacle_lines evidence.now tables.now table.now number row.now) }
 {
+    let without = all_without(evidence, table, number, row);
     push_all_held(out, evidence, table, number, row)?;
-    push_all_absent(out, evidence, table, row)?;
-    push_lacking_lines(out, evidence, tables, table, number, row)?;
+    push_all_absent(out, evidence, table, row, without)?;
+    push_lacking_lines(out, evidence, tables, table, row, without)?;
     push_doubt(out, evidence)
 }
