@@ -195,11 +195,15 @@ class Judge:
         fresh = [{it.isns for it in self.packets if it.way == seen and it.is_fresh} for seen in (way, way[::-1])]
         return any(it[::-1] in fresh[1] and begin(it) > begin(isns) for it in fresh[0])
 
-    @functools.cache
-    def live(self, is_strict):
-        """The packets of connections that go on, or of which nobody knows; strictly, none goes on that a later one replaced."""
-        over = lambda way, isns: self.has_ended(way, isns) or is_strict and self.is_replaced(way, isns)
-        return [it for it in self.packets if it.is_open or it.isns and not over(it.way, self.all_isns(it))]
+    @functools.cached_property
+    def live(self):
+        """The packets of connections that go on, or of which nobody knows."""
+        return [it for it in self.packets if it.is_open or it.isns and not self.has_ended(it.way, self.all_isns(it))]
+
+    @functools.cached_property
+    def lasting(self):
+        """Those of them that are fresh, of connections that no later one replaced."""
+        return [it for it in self.live if it.is_fresh and not self.is_replaced(it.way, it.isns)]
 
     # ---- a row
 
@@ -208,21 +212,25 @@ class Judge:
         ways = (packet.way, packet.way[::-1])
         return next(((own, other) for own, other in ways if own[0] == node.address and matches(row, own, other)), None)
 
-    def wants(self, node, n, packet, is_wide):
+    def is_another(self, node, row, packet, number, id_of, life_of):
+        """The row's lifetime was over, and another row of its node for these sockets has this id and may be meant."""
+        own, other = packet.way if packet.it.source[0] == node.address else packet.way[::-1]
+        others = [it for it in node.rows if it is not row and matches(it, own, other) and id_of(it) == number]
+        return packet.time > life_of(row)[1] and any(packet.time <= life_of(it)[1] for it in others)
+
+    def wants(self, node, n, packet):
         """It carries the row's KeyID or asks for the row: a received one that is verified is of the row that took it."""
         row, (key, asks) = node.rows[n], packet.it.ids
-        if packet.it.source[0] == node.address:
-            carries, lives = key == row.send, (row.sending, row.accepting)
-            asked = asks == row.recv
-        else:
-            carries, lives = key == row.recv if packet.row is None else packet.row == n, (row.accepting, row.sending)
-            asked = asks == row.send
-        return carries and (is_wide or packet.time <= lives[0][1]) or asked and (is_wide or packet.time <= lives[1][1])
+        sends, takes = (lambda it: it.send, lambda it: it.sending), (lambda it: it.recv, lambda it: it.accepting)
+        carrying, asking = (sends, takes) if packet.it.source[0] == node.address else (takes, sends)
+        means = lambda number, kind: kind[0](row) == number and not self.is_another(node, row, packet, number, *kind)
+        is_taken = packet.it.source[0] != node.address and packet.row is not None
+        return (packet.row == n if is_taken else means(key, carrying)) or means(asks, asking)
 
     def does_without(self, node, n, way, is_wide):
         """Behind the last packet of this way that wants the row a fresh one came that doesn't, and hasn't its KeyID."""
         sent, row = [it for it in self.packets if it.way == way and (it.is_open or it.isns)], node.rows[n]
-        last = max((it.number for it in sent if (is_wide or not it.is_copy) and self.wants(node, n, it, is_wide)), default=0)
+        last = max((it.number for it in sent if (is_wide or not it.is_copy) and self.wants(node, n, it)), default=0)
         key = row.send if way[0][0] == node.address else row.recv
         return any(it.number > last and it.is_fresh and it.it.ids[0] != key for it in sent)
 
@@ -236,13 +244,13 @@ class Judge:
                 return second
         return None
 
-    def amiss(self, node_number, n, is_strict=False, is_wide=False):
-        """Why it isn't safe to remove row n, from 0, of a node; none: it is. Seen widely, copies and what came after its lifetimes use it, too."""
+    def amiss(self, node_number, n, is_wide=False):
+        """Why it isn't safe to remove row n, from 0, of a node; none: it is. Seen widely, copies use it, too."""
         node = self.nodes[node_number]
-        row, live = node.rows[n], self.live(is_strict)
+        row, live = node.rows[n], self.live
         at_row = {pair for it in live if (pair := self.own_first(node, row, it))}
         found = ["a packet was cut"] * self.is_cut
-        met = {pair[1][0] for it in live if it.is_fresh and (pair := self.own_first(node, row, it))}
+        met = {pair[1][0] for it in self.lasting if (pair := self.own_first(node, row, it))}
         listed = [it for it in row.peers if it != "any"]
         found += [f"{it} wasn't seen" for it in listed if it not in met] + ["nobody was seen"] * (not met)
         latest = max((it.time for it in self.packets), default=0)

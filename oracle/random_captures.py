@@ -105,10 +105,12 @@ class End:
         self.next, self.uses, self.asks = self.isn, 0, 0
         self.far = None
         self.sent = []
+        self.is_slow = draw.random() < 0.1
 
     def row(self):
-        """The row that it uses, or the other one where that may send no more; none, where neither may."""
-        able = [it for it in (self.rows[self.uses], *self.rows) if it.sending[0] <= self.network.second <= it.sending[1]]
+        """The row that it uses, or the other one where that may send no more; none, where neither may. A slow clock ends none."""
+        may = lambda it: it.sending[0] <= self.network.second and (self.is_slow or self.network.second <= it.sending[1])
+        able = [it for it in (self.rows[self.uses], *self.rows) if may(it)]
         return able[0] if able else None
 
     def make(self, flags, payload=b"", sequence=None):

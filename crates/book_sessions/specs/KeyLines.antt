@@ -107,14 +107,14 @@ abbrev pub absent_text : Option Address → List ℕ
 absent_text None = obstacle_line (codes "no peer seen" ∷ [])
 absent_text (Some address) = unseen_line address
 
--- these are of the peer; once all at the row does without it, they show the peer too (own)
-abbrev pub tells_peer : Evidence → Table → Row → (without : Bool) → Option Address → KeyUse → Bool
-tells_peer e t r without p u = if without then shows_peer e.uses t r p u else is_of_peer t r p u
+-- the peer was seen; once all at the row does without it, by what shows it (own)
+abbrev pub is_peer_told : Evidence → Table → Row → (without : Bool) → Option Address → Bool
+is_peer_told e t r without p = if without
+    then list_any (shows_peer e.uses t r p) e.live else list_any (is_of_peer t r p) e.live
 
 -- the same, if it wasn't (own)
 abbrev pub absent_line : Evidence → Table → Row → (without : Bool) → Option Address → List ℕ
-absent_line e t r without p =
-    if list_any (tells_peer e t r without p) e.live then [] else absent_text p
+absent_line e t r without p = if is_peer_told e t r without p then [] else absent_text p
 
 -- where the row goes, the two ends of these lack a row to send with (own)
 abbrev pub lacking_line : Evidence → List Table → Table → Row → KeyUse → List ℕ

@@ -57,25 +57,46 @@ is_at_row t r u = sent_by t r u || sent_to t r u
 abbrev pub is_outlived : Lifetime → KeyUse → Bool
 is_outlived l u = nat_lt l.last u.first
 
--- these passed under the row of this number; of those that didn't pass it may be the row, unless it
--- accepted none any more (RFC 5925, section 7.5)
-abbrev pub came_under : (number : ℕ) → Row → KeyUse → Option ℕ → Bool
-came_under n r u None = not (is_outlived r.accepting u)
-came_under n r u (Some row) = row == n
+-- of the rows for this pair one sends with this id, and isn't over at the last of these (own)
+abbrev pub may_be_sent : Table → Pair → (found : Option ℕ) → KeyUse → Bool
+may_be_sent t pair found u = list_any (λ q. is_for t q pair
+    && (is_id found q.send_id && nat_le u.last q.sending.last)) t.rows
+
+-- of the rows for this pair one takes this id, and isn't over at the last of these (own)
+abbrev pub may_be_taken : Table → Pair → (found : Option ℕ) → KeyUse → Bool
+may_be_taken t pair found u = list_any (λ q. is_for t q pair
+    && (is_id found q.recv_id && nat_le u.last q.accepting.last)) t.rows
+
+-- the row is over for these, and another one may be meant by the id that it sends with (own)
+abbrev pub is_sent_anew : Table → Row → Pair → (found : Option ℕ) → KeyUse → Bool
+is_sent_anew t r pair found u = is_outlived r.sending u && may_be_sent t pair found u
+
+-- the row is over for these, and another one may be meant by the id that it takes (own)
+abbrev pub is_taken_anew : Table → Row → Pair → (found : Option ℕ) → KeyUse → Bool
+is_taken_anew t r pair found u = is_outlived r.accepting u && may_be_taken t pair found u
+
+-- these passed under the row of this number; of those that didn't pass it may be the row, unless
+-- another one may (RFC 5925, section 7.5)
+abbrev pub came_under : Table → (number : ℕ) → Row → KeyUse → Option ℕ → Bool
+came_under t n r u None = not (is_taken_anew t r (between u.destination u.source) u.key_id u)
+came_under t n r u (Some row) = row == n
 
 -- these carry the KeyID of row number n: its node sent them with it, or took them under it (RFC
 -- 5925, section 6.1)
 abbrev pub carries_row : Table → (n : ℕ) → Row → KeyUse → Bool
 carries_row t n r u =
-    (sent_by t r u && (is_id u.key_id r.send_id && not (is_outlived r.sending u)))
-    || (sent_to t r u && (is_id u.key_id r.recv_id && came_under n r u u.row))
+    (sent_by t r u && (is_id u.key_id r.send_id
+    && not (is_sent_anew t r (between u.source u.destination) u.key_id u)))
+    || (sent_to t r u && (is_id u.key_id r.recv_id && came_under t n r u u.row))
 
 -- these ask for the row: its node asks to be sent with it, or is asked to send with it (RFC 5925,
 -- section 7.1)
 abbrev pub asks_for_row : Table → Row → KeyUse → Bool
 asks_for_row t r u =
-    (sent_by t r u && (is_id u.asked r.recv_id && not (is_outlived r.accepting u)))
-    || (sent_to t r u && (is_id u.asked r.send_id && not (is_outlived r.sending u)))
+    (sent_by t r u && (is_id u.asked r.recv_id
+    && not (is_taken_anew t r (between u.source u.destination) u.asked u)))
+    || (sent_to t r u && (is_id u.asked r.send_id
+    && not (is_sent_anew t r (between u.destination u.source) u.asked u)))
 
 -- these carry the row's KeyID, or ask for the row (own)
 abbrev pub wants_row : Table → (n : ℕ) → Row → KeyUse → Bool

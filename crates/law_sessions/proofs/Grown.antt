@@ -4,6 +4,7 @@ use Rattle.std.proofs.lemmas.Bool.Decides.{nat_tests}
 use Rattle.std.specs.Prelude.{filter, cond}
 use Rattle.std.specs.List.{AllByRecursion, list_all, list_any}
 use Rattle.book_base.specs.declared.address.Address.{Address}
+use Rattle.book_base.specs.declared.address.Pair.{Pair}
 use Rattle.book_base.specs.declared.address.Socket.{Socket}
 use Rattle.book_keys.specs.Rows.{Row, Table}
 use Rattle.book_keys.specs.declared.lifetime.Lifetime.{Lifetime}
@@ -15,7 +16,7 @@ use Rattle.book_sessions.specs.Counts.{no_signs}
 use Rattle.book_sessions.specs.OutcomeTexts.{is_verified}
 use Rattle.book_sessions.specs.declared.retiring.Ending.{Ending}
 use Rattle.book_sessions.specs.declared.retiring.Wanting.{Wanting}
-use Rattle.book_sessions.specs.Retiring.{Evidence, all_left, all_without, and_ending, asks_for_row, both_without, came_under, carries_row, does_without, ending_by, evidence_of, goes_from, is_at_row, is_counted, is_elsewhere, is_ended, is_dispensable, is_followed, is_id, is_in_use, is_live, is_of_peer, is_onward, is_outlived, is_return, leaves_use, may_go, sees_peers, sent_by, sent_to, shows_peer, wanting_by, wants_row, with_mark}
+use Rattle.book_sessions.specs.Retiring.{Evidence, all_left, all_without, and_ending, asks_for_row, between, both_without, came_under, carries_row, does_without, ending_by, evidence_of, goes_from, is_at_row, is_counted, is_elsewhere, is_ended, is_dispensable, is_followed, is_for, is_id, is_in_use, is_live, is_of_peer, is_onward, is_outlived, is_return, is_sent_anew, is_taken_anew, leaves_use, may_be_sent, may_be_taken, may_go, sees_peers, sent_by, sent_to, shows_peer, wanting_by, wants_row, with_mark}
 use Rattle.book_sessions.specs.Sessions.{SessionTable, and_segment, first_use, is_use_of, session_of, signs_of, used_again, with_use}
 use Rattle.law_sessions.specs.Old.{IsLast, evidence_at}
 
@@ -76,6 +77,7 @@ pub record Alike (u v : KeyUse) : Type 0 where
   pub reset : v.reset ≡ u.reset
   pub finished : v.finished ≡ u.finished
   pub first : v.first ≤ u.first
+  pub last : u.last ≤ v.last
   pub packet : u.packet ≤ v.packet
 
 same_alike : (u : KeyUse) → Alike u u
@@ -91,6 +93,7 @@ same_alike u = record {
   reset = refl;
   finished = refl;
   first = omega arith;
+  last = omega arith;
   packet = omega arith;
 }
 
@@ -116,7 +119,7 @@ module _ (s : SeenSegment) where
   first_quiet k = record { moved = refl; reset = refl; finished = refl }
 
   again_alike : (u : KeyUse) → u.packet ≤ s.packet → Alike u (used_again no_signs s u)
-  again_alike u last = record {
+  again_alike u later = record {
     source = refl;
     destination = refl;
     key_id = refl;
@@ -128,7 +131,8 @@ module _ (s : SeenSegment) where
     reset = refl;
     finished = refl;
     first = omega arith;
-    packet = last;
+    last = omega arith;
+    packet = later;
   }
 
   grown_by : (k : ℕ) (us : List KeyUse) → IsLast s us → Grown us (with_use k no_signs s us)
@@ -142,11 +146,37 @@ module _ (s : SeenSegment) where
 -- ---- the row
 
 module _ (t : Table) (n : ℕ) (r : Row) where
-  outlived_less : (l : Lifetime) (u v : KeyUse) → Alike u v → Leads (not (is_outlived l u)) (not (is_outlived l v))
-  outlived_less l u v A = not_turned (is_outlived l v) (is_outlived l u) (λ e. below l.last v.first u.first A.first e)
+  outlived_less : (l : Lifetime) (u v : KeyUse) → Alike u v → Leads (is_outlived l v) (is_outlived l u)
+  outlived_less l u v A e = below l.last v.first u.first A.first e
     where
       below : (a x y : ℕ) → x ≤ y → Leads (nat_lt a x) (nat_lt a y)
       below a x y h e = grind (arith, nat_tests)
+
+  ends_less : (l : Lifetime) (u v : KeyUse) → Alike u v → Leads (nat_le v.last l.last) (nat_le u.last l.last)
+  ends_less l u v A e = below l.last u.last v.last A.last e
+    where
+      below : (a x y : ℕ) → x ≤ y → Leads (nat_le y a) (nat_le x a)
+      below a x y h e = grind (arith, nat_tests)
+
+  rows_leads : (f g : Row → Bool) → ((q : Row) → Leads (g q) (f q)) → (qs : List Row) → Leads (list_any g qs) (list_any f qs)
+  rows_leads f g h [] e = e
+  rows_leads f g h (q ∷ qs) e = or_leads (g q) (list_any g qs) (f q) (list_any f qs) (h q) (rows_leads f g h qs) e
+
+  anew_leads : (pair : Pair) (found : Option ℕ) (id : Row → ℕ) (life : Row → Lifetime) (u v : KeyUse) → Alike u v
+      → Leads (list_any (λ q. is_for t q pair && (is_id found (id q) && nat_le v.last (life q).last)) t.rows) (list_any (λ q. is_for t q pair && (is_id found (id q) && nat_le u.last (life q).last)) t.rows)
+  anew_leads pair found id life u v A =
+      rows_leads (λ q. is_for t q pair && (is_id found (id q) && nat_le u.last (life q).last)) (λ q. is_for t q pair && (is_id found (id q) && nat_le v.last (life q).last))
+      (λ q. and_leads (is_for t q pair) _ (is_for t q pair) _ (λ e. e) (and_leads (is_id found (id q)) _ (is_id found (id q)) _ (λ e. e) (ends_less (life q) u v A))) t.rows
+
+  sent_anew_less : (pair : Pair) (found : Option ℕ) (u v : KeyUse) → Alike u v → Leads (not (is_sent_anew t r pair found u)) (not (is_sent_anew t r pair found v))
+  sent_anew_less pair found u v A = not_turned (is_sent_anew t r pair found v) (is_sent_anew t r pair found u)
+      (and_leads (is_outlived r.sending v) (may_be_sent t pair found v) (is_outlived r.sending u) (may_be_sent t pair found u)
+      (outlived_less r.sending u v A) (anew_leads pair found (λ q. q.send_id) (λ q. q.sending) u v A))
+
+  taken_anew_less : (pair : Pair) (found : Option ℕ) (u v : KeyUse) → Alike u v → Leads (not (is_taken_anew t r pair found u)) (not (is_taken_anew t r pair found v))
+  taken_anew_less pair found u v A = not_turned (is_taken_anew t r pair found v) (is_taken_anew t r pair found u)
+      (and_leads (is_outlived r.accepting v) (may_be_taken t pair found v) (is_outlived r.accepting u) (may_be_taken t pair found u)
+      (outlived_less r.accepting u v A) (anew_leads pair found (λ q. q.recv_id) (λ q. q.accepting) u v A))
 
   sent_same : (u v : KeyUse) → Alike u v → sent_by t r v ≡ sent_by t r u
   sent_same u v A = rw (A.source, A.destination) refl
@@ -154,21 +184,23 @@ module _ (t : Table) (n : ℕ) (r : Row) where
   sent_to_same : (u v : KeyUse) → Alike u v → sent_to t r v ≡ sent_to t r u
   sent_to_same u v A = rw (A.source, A.destination) refl
 
-  under_leads : (row : Option ℕ) (u v : KeyUse) → Alike u v → Leads (came_under n r u row) (came_under n r v row)
-  under_leads None u v A = outlived_less r.accepting u v A
+  under_leads : (row : Option ℕ) (u v : KeyUse) → Alike u v → Leads (came_under t n r u row) (came_under t n r v row)
+  under_leads None u v A = rw (A.source, A.destination, A.key_id) (taken_anew_less (between u.destination u.source) u.key_id u v A)
   under_leads (Some m) u v A = λ e. e
 
   carries_leads : (u v : KeyUse) → Alike u v → Leads (carries_row t n r u) (carries_row t n r v)
-  carries_leads u v A = rw (sent_same u v A, sent_to_same u v A, A.key_id, A.row)
-      (or_leads _ _ _ _
-      (and_leads (sent_by t r u) _ (sent_by t r u) _ (λ e. e) (and_leads (is_id u.key_id r.send_id) _ (is_id u.key_id r.send_id) _ (λ e. e) (outlived_less r.sending u v A)))
-      (and_leads (sent_to t r u) _ (sent_to t r u) _ (λ e. e) (and_leads (is_id u.key_id r.recv_id) _ (is_id u.key_id r.recv_id) _ (λ e. e) (under_leads u.row u v A))))
+  carries_leads u v A = or_leads (sent_by t r u && _) (sent_to t r u && _) (sent_by t r v && _) (sent_to t r v && _)
+      (and_leads (sent_by t r u) _ (sent_by t r v) _ (λ e. sent_same u v A ∙ e) (and_leads (is_id u.key_id r.send_id) _ (is_id v.key_id r.send_id) _ (λ e. rw A.key_id e)
+      (rw (A.source, A.destination, A.key_id) (sent_anew_less (between u.source u.destination) u.key_id u v A))))
+      (and_leads (sent_to t r u) _ (sent_to t r v) _ (λ e. sent_to_same u v A ∙ e) (and_leads (is_id u.key_id r.recv_id) _ (is_id v.key_id r.recv_id) _ (λ e. rw A.key_id e)
+      (rw A.row (under_leads u.row u v A))))
 
   asks_leads : (u v : KeyUse) → Alike u v → Leads (asks_for_row t r u) (asks_for_row t r v)
-  asks_leads u v A = rw (sent_same u v A, sent_to_same u v A, A.asked)
-      (or_leads _ _ _ _
-      (and_leads (sent_by t r u) _ (sent_by t r u) _ (λ e. e) (and_leads (is_id u.asked r.recv_id) _ (is_id u.asked r.recv_id) _ (λ e. e) (outlived_less r.accepting u v A)))
-      (and_leads (sent_to t r u) _ (sent_to t r u) _ (λ e. e) (and_leads (is_id u.asked r.send_id) _ (is_id u.asked r.send_id) _ (λ e. e) (outlived_less r.sending u v A))))
+  asks_leads u v A = or_leads (sent_by t r u && _) (sent_to t r u && _) (sent_by t r v && _) (sent_to t r v && _)
+      (and_leads (sent_by t r u) _ (sent_by t r v) _ (λ e. sent_same u v A ∙ e) (and_leads (is_id u.asked r.recv_id) _ (is_id v.asked r.recv_id) _ (λ e. rw A.asked e)
+      (rw (A.source, A.destination, A.asked) (taken_anew_less (between u.source u.destination) u.asked u v A))))
+      (and_leads (sent_to t r u) _ (sent_to t r v) _ (λ e. sent_to_same u v A ∙ e) (and_leads (is_id u.asked r.send_id) _ (is_id v.asked r.send_id) _ (λ e. rw A.asked e)
+      (rw (A.source, A.destination, A.asked) (sent_anew_less (between u.destination u.source) u.asked u v A))))
 
   wants_leads : (u v : KeyUse) → Alike u v → Leads (wants_row t n r u) (wants_row t n r v)
   wants_leads u v A = or_leads (carries_row t n r u) _ (carries_row t n r v) _ (carries_leads u v A) (asks_leads u v A)

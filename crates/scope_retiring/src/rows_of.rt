@@ -1,6 +1,7 @@
 //! Which segments a row of a key file is for, and which want it.
-ghost use Rattle.std.specs.Prelude.{◌≡◌, ◌&&◌, not};
-ghost use Rattle.book_sessions.specs.Retiring.{asks_for_row, between, came_under, carries_row, is_at_row, is_for, is_id, is_outlived, sent_by, sent_to, wants_row};
+ghost use Rattle.std.specs.Prelude.{◌≡◌, ◌&&◌, nat_le, not};
+ghost use Rattle.std.specs.List.{list_any};
+ghost use Rattle.book_sessions.specs.Retiring.{asks_for_row, between, came_under, carries_row, is_at_row, is_for, is_id, is_outlived, is_sent_anew, is_taken_anew, may_be_sent, may_be_taken, sent_by, sent_to, wants_row};
 
 use ao_base::is_same_address;
 use book_base::{Pair, Socket};
@@ -58,28 +59,82 @@ fn is_outlived(lifetime: Lifetime, one: &KeyUse) -> bool
     lifetime.last < one.first
 }
 
+fn is_sent_on(table: &Table, pair: &Pair, found: Option<u8>, one: &KeyUse, row: &Row) -> bool
+    ensures { result ≡ (is_for table.now row.now pair.now && (is_id found row.now.send_id && nat_le one.now.last row.now.sending.last)) }
+{
+    is_for(table, row, pair) && (is_id(found, row.send_id()) && one.last <= row.sending().last)
+}
+
+fn is_taken_on(table: &Table, pair: &Pair, found: Option<u8>, one: &KeyUse, row: &Row) -> bool
+    ensures { result ≡ (is_for table.now row.now pair.now && (is_id found row.now.recv_id && nat_le one.now.last row.now.accepting.last)) }
+{
+    is_for(table, row, pair) && (is_id(found, row.recv_id()) && one.last <= row.accepting().last)
+}
+
+// Whether of the rows for this pair one sends with this id, and isn't over at the last of these.
+fn may_be_sent(table: &Table, pair: &Pair, found: Option<u8>, one: &KeyUse) -> bool
+    ensures { result ≡ may_be_sent table.now pair.now found one.now }
+{
+    table
+        .entries()
+        .iter()
+        .any(|row| is_sent_on(table, pair, found, one, row))
+}
+
+// Whether of the rows for this pair one takes this id, and isn't over at the last of these.
+fn may_be_taken(table: &Table, pair: &Pair, found: Option<u8>, one: &KeyUse) -> bool
+    ensures { result ≡ may_be_taken table.now pair.now found one.now }
+{
+    table
+        .entries()
+        .iter()
+        .any(|row| is_taken_on(table, pair, found, one, row))
+}
+
+// Whether the row is over for these, and another one may be meant by the id that it sends with.
+fn is_sent_anew(table: &Table, row: &Row, pair: &Pair, found: Option<u8>, one: &KeyUse) -> bool
+    ensures { result ≡ is_sent_anew table.now row.now pair.now found one.now }
+{
+    is_outlived(row.sending(), one) && may_be_sent(table, pair, found, one)
+}
+
+// Whether the row is over for these, and another one may be meant by the id that it takes.
+fn is_taken_anew(table: &Table, row: &Row, pair: &Pair, found: Option<u8>, one: &KeyUse) -> bool
+    ensures { result ≡ is_taken_anew table.now row.now pair.now found one.now }
+{
+    is_outlived(row.accepting(), one) && may_be_taken(table, pair, found, one)
+}
+
 // Whether these passed under the row of this number; of those that didn't pass, whether it may be the row.
-fn came_under(number: u64, row: &Row, one: &KeyUse, found: Option<u8>) -> bool
-    ensures { result ≡ came_under number row.now one.now found }
+fn came_under(table: &Table, number: u64, row: &Row, one: &KeyUse, found: Option<u8>) -> bool
+    ensures { result ≡ came_under table.now number row.now one.now found }
 {
     match found {
-        None => !is_outlived(row.accepting(), one),
+        None => !is_taken_anew(
+            table,
+            row,
+            &between(one.destination, one.source),
+            one.key_id,
+            one,
+        ),
         Some(found) => u64::from(found) == number,
     }
 }
 
 fn is_sent_with(table: &Table, row: &Row, one: &KeyUse) -> bool
-    ensures { result ≡ (sent_by table.now row.now one.now && (is_id one.now.key_id row.now.send_id && not (is_outlived row.now.sending one.now))) }
+    ensures { result ≡ (sent_by table.now row.now one.now && (is_id one.now.key_id row.now.send_id
+        && not (is_sent_anew table.now row.now (between one.now.source one.now.destination) one.now.key_id one.now))) }
 {
+    let pair = between(one.source, one.destination);
     sent_by(table, row, one)
-        && (is_id(one.key_id, row.send_id()) && !is_outlived(row.sending(), one))
+        && (is_id(one.key_id, row.send_id()) && !is_sent_anew(table, row, &pair, one.key_id, one))
 }
 
 fn is_taken_under(table: &Table, number: u64, row: &Row, one: &KeyUse) -> bool
-    ensures { result ≡ (sent_to table.now row.now one.now && (is_id one.now.key_id row.now.recv_id && came_under number row.now one.now one.now.row)) }
+    ensures { result ≡ (sent_to table.now row.now one.now && (is_id one.now.key_id row.now.recv_id && came_under table.now number row.now one.now one.now.row)) }
 {
     sent_to(table, row, one)
-        && (is_id(one.key_id, row.recv_id()) && came_under(number, row, one, one.row))
+        && (is_id(one.key_id, row.recv_id()) && came_under(table, number, row, one, one.row))
 }
 
 /// Whether these carry the KeyID of row number `number`: its node sent them with it, or took them under it.
@@ -90,17 +145,21 @@ pub fn carries_row(table: &Table, number: u64, row: &Row, one: &KeyUse) -> bool
 }
 
 fn asks_to_be_sent(table: &Table, row: &Row, one: &KeyUse) -> bool
-    ensures { result ≡ (sent_by table.now row.now one.now && (is_id one.now.asked row.now.recv_id && not (is_outlived row.now.accepting one.now))) }
+    ensures { result ≡ (sent_by table.now row.now one.now && (is_id one.now.asked row.now.recv_id
+        && not (is_taken_anew table.now row.now (between one.now.source one.now.destination) one.now.asked one.now))) }
 {
+    let pair = between(one.source, one.destination);
     sent_by(table, row, one)
-        && (is_id(one.asked, row.recv_id()) && !is_outlived(row.accepting(), one))
+        && (is_id(one.asked, row.recv_id()) && !is_taken_anew(table, row, &pair, one.asked, one))
 }
 
 fn is_asked_to_send(table: &Table, row: &Row, one: &KeyUse) -> bool
-    ensures { result ≡ (sent_to table.now row.now one.now && (is_id one.now.asked row.now.send_id && not (is_outlived row.now.sending one.now))) }
+    ensures { result ≡ (sent_to table.now row.now one.now && (is_id one.now.asked row.now.send_id
+        && not (is_sent_anew table.now row.now (between one.now.destination one.now.source) one.now.asked one.now))) }
 {
+    let pair = between(one.destination, one.source);
     sent_to(table, row, one)
-        && (is_id(one.asked, row.send_id()) && !is_outlived(row.sending(), one))
+        && (is_id(one.asked, row.send_id()) && !is_sent_anew(table, row, &pair, one.asked, one))
 }
 
 /// Whether these ask for the row: its node asks to be sent with it, or is asked to send with it.

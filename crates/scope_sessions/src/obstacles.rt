@@ -2,7 +2,7 @@
 ghost use Rattle.std.specs.Prelude.{◌≡◌, ◌++◌, ◌∷◌, [], OnOk, codes};
 ghost use Rattle.std.specs.List.{flat_map, list_any};
 ghost use Rattle.book_scope_texts.specs.Addresses.{usual_address_text};
-ghost use Rattle.book_sessions.specs.KeyLines.{absent_line, absent_text, doubt_line, held_line, held_line_at, held_text, lacking_line, lines_without, obstacle_by, obstacle_line, obstacle_lines, tells_peer, unanswered_line, unseen_line};
+ghost use Rattle.book_sessions.specs.KeyLines.{absent_line, absent_text, doubt_line, held_line, held_line_at, held_text, is_peer_told, lacking_line, lines_without, obstacle_by, obstacle_line, obstacle_lines, unanswered_line, unseen_line};
 ghost use Rattle.book_sessions.specs.Retiring.{all_without, goes_from, is_of_peer, shows_peer};
 ghost use Rattle.scope_retiring.specs.Known.{HasSession};
 
@@ -155,7 +155,7 @@ fn is_peer_told(
     without: bool,
     peer: &Option<Address>,
 ) -> bool
-    ensures { result ≡ list_any (tells_peer evidence.now table.now row.now without peer.now) evidence.now.live }
+    ensures { result ≡ is_peer_told evidence.now table.now row.now without peer.now }
 {
     if without {
         sees_peer(evidence, table, row, peer)
