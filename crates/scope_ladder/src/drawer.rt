@@ -11,6 +11,7 @@ ghost use Rattle.scope_lines.specs.Writes.{found_in};
 ghost use Rattle.scope_ladder.specs.Drawing.{Adds, AddsPacket, AddsRead, Follows, Request, request_of};
 ghost use Rattle.scope_ladder.specs.Searches.{kept_as, shown_as, shown_rungs, shown_text};
 
+use crate::protections::protection_of;
 use crate::search::{Search, Shown};
 use ao_base::Steps;
 use book_draw_session::SessionRung;
@@ -53,6 +54,7 @@ fn session_rung(packet: u64, time: u64, datagram: &Datagram<'_>, heard: HeardSeg
         acknowledgement: datagram.acknowledgement(),
         length: datagram.payload().len() as u64,
         ids: key_ids(datagram),
+        protection: protection_of(datagram),
         outcome: heard.outcome,
         pass: heard.pass,
     }

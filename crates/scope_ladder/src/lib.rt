@@ -7,6 +7,7 @@ mod draw;
 mod drawer;
 mod known;
 mod picture;
+mod protections;
 mod search;
 
 pub use draw::LadderHalt;
