@@ -12,5 +12,5 @@ returns-in-None g c = λ b stands.
 pub returns-in-Some : goal.returns-in-Some
 returns-in-Some g c = λ b stands.
     let h = rw c.in-Some.is at c.in_ok-found.ensures in
-    mended_found c.answer_judged.result (key_file_of c.args.question.now c.args.checker.now.tables) b c.args.question.now.with_key true c.args.number c.args.stored.time c.args.stored.bytes.now c.as_slice.result.now
-    h.0 (c.as_slice.ensures.value ∙ h.1) (c.answer_judged.ensures b stands)
+    mended_found c.answer_judged-in-Some.result (key_file_of c.args.question.now c.args.checker.now.tables) b c.args.question.now.with_key true c.args.number c.args.stored.time c.args.stored.bytes.now c.as_slice.result.now
+    h.0 (c.as_slice.ensures.value ∙ h.1) (c.answer_judged-in-Some.ensures b stands)
