@@ -61,6 +61,11 @@ one_more_node keys e i tables t before after all low here so_far more =
     let cut : drop i tables ≡ t ∷ drop (i + 1) tables = rw (add-one i) (drop-cons tables i t low ∙ ap (λ x. x ∷ drop (suc i) tables) (sym at_place)) in
     goes_on keys e (drop i tables) (drop (i + 1) tables) t before after all cut so_far more
 
+-- the line of segments without a header checksum, where there are some
+pub unset_told : (n : ℕ) → n ≢ 0 → unset_line n ≡ line_text (codes "ip-checksum" ∷ decimal n ∷ [])
+unset_told zero some = absurd (some refl)
+unset_told (suc n) some = refl
+
 -- the whole text, one part behind another
 pub whole_text : (keys : KeyFile) (t : SessionTable) (out one two mid three four : List ℕ) (segments others : ℕ) → segments ≡ all_counted t.uses → others ≡ all_passed t.passed → one ≡ out ++ capture_line segments others t.uses
     → two ≡ one ++ flat_map passed_line t.passed → mid ≡ two ++ unset_line t.unset → three ≡ mid ++ sessions_lines t.uses t.sessions → four ≡ three ++ keys_lines keys (evidence_of t) → four ≡ out ++ sessions_text keys t

@@ -109,14 +109,12 @@ fn push_others(
     push_reasons(alloc, out, passed)
 }
 
-// Puts how many segments have no header checksum behind `out`, as the last member.
+// Puts how many segments have no header checksum behind `out`.
 fn push_unset(out: &mut Vec<u8>, unset: u64) -> Result<(), AllocError>
-    ensures { OnOk result (out.new.items ≡ out.old.items ++ (44 ∷ json_member (codes "ip_checksum") (decimal unset) ++ 125 ∷ [])) }
+    ensures { OnOk result (out.new.items ≡ out.old.items ++ (44 ∷ json_member (codes "ip_checksum") (decimal unset))) }
 {
     push_name(out, b',', b"ip_checksum")?;
-    push_decimal(out, unset)?;
-    out.push(b'}')?;
-    Ok(())
+    push_decimal(out, unset)
 }
 
 /// Puts the packets of a capture behind `out`. An error for want of memory, or where more than
@@ -133,5 +131,7 @@ pub(crate) fn push_packets(
     let others = all_passed(index.passed()).ok_or(AllocError)?;
     push_seen(alloc, out, segments, index.uses())?;
     push_others(alloc, out, others, index.passed())?;
-    push_unset(out, index.unset())
+    push_unset(out, index.unset())?;
+    out.push(b'}')?;
+    Ok(())
 }

@@ -1,5 +1,6 @@
 //! The whole text of a table, and whether anything in it is amiss.
-ghost use Rattle.std.specs.Prelude.{◌≡◌, ◌++◌, ◌||◌, not, OnOk, IfSome};
+ghost use Rattle.std.specs.Prelude.{◌≡◌, ◌++◌, ◌∷◌, ◌||◌, [], codes, decimal, not, OnOk, IfSome};
+ghost use Rattle.book_lines.specs.Texts.{line_text};
 ghost use Rattle.std.specs.List.{list_any};
 ghost use Rattle.book_sessions.specs.Counts.{all_counted, all_passed};
 ghost use Rattle.toml.specs.View.{table_view};
@@ -54,16 +55,23 @@ pub(crate) fn has_amiss(index: &SessionIndex) -> bool
     has_unverified(index.uses()) || has_doubtful(index.passed())
 }
 
-// Puts the line of so many segments without a header checksum behind `out`, if there are some.
+// Puts the line of so many segments without a header checksum behind `out`.
+fn push_unset_line(out: &mut Vec<u8>, unset: u64) -> Result<(), AllocError>
+    ensures { OnOk result (out.new.items ≡ out.old.items ++ line_text (codes "ip-checksum" ∷ decimal unset ∷ [])) }
+{
+    out.extend_from_slice(b"ip-checksum ")?;
+    push_decimal(out, unset)?;
+    push_newline(out)
+}
+
+// Puts the same behind `out`, if there are some.
 fn push_unset(out: &mut Vec<u8>, unset: u64) -> Result<(), AllocError>
     ensures { OnOk result (out.new.items ≡ out.old.items ++ unset_line unset) }
 {
     if unset == 0 {
         return Ok(());
     }
-    out.extend_from_slice(b"ip-checksum ")?;
-    push_decimal(out, unset)?;
-    push_newline(out)
+    push_unset_line(out, unset)
 }
 
 /// Puts the text of a table behind `out`, with the keys of these tables. An error for want of memory,
