@@ -138,3 +138,8 @@ pub mended_on : {E : Type 0} (result : Result (Unit {0}) E) (j : Judging) (k : L
     → OnOk result (CountsJudged j k after (with_unset (is_segment (reading whole)) before) now (Ok (stored_at number time whole))) → OnOk result (CountsStored j k after before now (Ok (stored_at number time bytes)))
 mended_on (Ok done) j k after before now number time bytes whole lacks is counts = mended_counts j k after before now number time bytes whole lacks is counts
 mended_on (Err e) j k after before now number time bytes whole lacks is counts = tt
+
+-- the same of what is as much
+pub found_on : {E : Type 0} (result : Result (Unit {0}) E) (j : Judging) (k : Listening) (after : Hearing) (before now : SessionTable) (one two : Result Stored PassedOver) → one ≡ two
+    → OnOk result (CountsStored j k after before now one) → OnOk result (CountsStored j k after before now two)
+found_on result j k after before now one two is counts = subst (λ (r : Result Stored PassedOver). OnOk result (CountsStored j k after before now r)) is counts

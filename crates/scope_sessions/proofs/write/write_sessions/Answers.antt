@@ -8,7 +8,7 @@ pub returns-in-Err : goal.returns-in-Err
 returns-in-Err g c = ([], rw c.halt_of.ensures (writes_refused c.args.request c.args.laps c.args.keys.now c.args.isns.now c.in-Err.fault _ _ c.in-Err.ensures.value))
 
 pub returns-in-Err-read_document : goal.returns-in-Err-read_document
-returns-in-Err-read_document g c = ([], rw c.halt_of-2.ensures (writes_refused c.args.request c.args.laps c.args.keys.now c.args.isns.now c.in-Err-read_document.fault _ _ c.in-Err-read_document.ensures.refused))
+returns-in-Err-read_document g c = ([], rw c.halt_of-in-Err-read_document.ensures (writes_refused c.args.request c.args.laps c.args.keys.now c.args.isns.now c.in-Err-read_document.fault _ _ c.in-Err-read_document.ensures.refused))
 
 pub returns-in-Err-read_given : goal.returns-in-Err-read_given
 returns-in-Err-read_given g c =
