@@ -1,10 +1,11 @@
 -- The parts of a text, one behind another.
-use Rattle.std.proofs.Common.{◌≡◌, ℕ, suc, ◌+◌, ◌-◌, ◌<◌, List, [], ◌∷◌, ◌++◌, length, drop, get_or, Option, Some, None, Bool, Result, Ok, Err, OnOk, refl, sym, ap, subst, ◌∙◌, append_assoc, arith, add-one}
+use Rattle.std.proofs.Common.{◌≡◌, ◌==◌, ℕ, false, true, zero, suc, ◌+◌, ◌-◌, ◌<◌, List, [], ◌∷◌, ◌++◌, length, drop, get_or, Option, Some, None, Bool, Result, Ok, Err, OnOk, refl, sym, ap, subst, ◌∙◌, append_assoc, arith, add-one}
 use Rattle.std.proofs.Math.Seq.{drop-cons}
 use Rattle.std.proofs.lemmas.List.{append-nil}
 use Rattle.std.specs.List.{find, flat_map}
+use Rattle.std.specs.Prelude.{codes, decimal}
 use Rattle.book_keys.specs.Rows.{Row, Table}
-use Rattle.book_lines.specs.Texts.{spaced}
+use Rattle.book_lines.specs.Texts.{line_text, spaced}
 use Rattle.book_scope_plan.specs.AdminNames.{KeyFile}
 use Rattle.book_sessions.specs.declared.uses.KeyUse.{KeyUse}
 use Rattle.book_sessions.specs.Counts.{all_counted, all_passed}
@@ -62,8 +63,8 @@ one_more_node keys e i tables t before after all low here so_far more =
     goes_on keys e (drop i tables) (drop (i + 1) tables) t before after all cut so_far more
 
 -- the line of segments without a header checksum, where there are some
-pub unset_told : (n : ℕ) → n ≢ 0 → unset_line n ≡ line_text (codes "ip-checksum" ∷ decimal n ∷ [])
-unset_told zero some = absurd (some refl)
+pub unset_told : (n : ℕ) → (n == 0) ≡ false → unset_line n ≡ line_text (codes "ip-checksum" ∷ decimal n ∷ [])
+unset_told zero some = let bad : true ≡ false = some in absurd (cc)
 unset_told (suc n) some = refl
 
 -- the whole text, one part behind another
