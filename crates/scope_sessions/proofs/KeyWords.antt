@@ -1,5 +1,5 @@
 -- The parts of a text, one behind another.
-use Rattle.std.proofs.Common.{◌≡◌, ◌==◌, ℕ, false, true, zero, suc, ◌+◌, ◌-◌, ◌<◌, List, [], ◌∷◌, ◌++◌, length, drop, get_or, Option, Some, None, Bool, Result, Ok, Err, OnOk, refl, sym, ap, subst, ◌∙◌, append_assoc, arith, add-one}
+use Rattle.std.proofs.Common.{◌≡◌, ◌≢◌, ℕ, zero, suc, ◌+◌, ◌-◌, ◌<◌, List, [], ◌∷◌, ◌++◌, length, drop, get_or, Option, Some, None, Bool, Result, Ok, Err, OnOk, refl, sym, ap, subst, ◌∙◌, append_assoc, arith, add-one}
 use Rattle.std.proofs.Math.Seq.{drop-cons}
 use Rattle.std.proofs.lemmas.List.{append-nil}
 use Rattle.std.specs.List.{find, flat_map}
@@ -63,8 +63,8 @@ one_more_node keys e i tables t before after all low here so_far more =
     goes_on keys e (drop i tables) (drop (i + 1) tables) t before after all cut so_far more
 
 -- the line of segments without a header checksum, where there are some
-pub unset_told : (n : ℕ) → (n == 0) ≡ false → unset_line n ≡ line_text (codes "ip-checksum" ∷ decimal n ∷ [])
-unset_told zero some = let bad : true ≡ false = some in absurd (cc)
+pub unset_told : (n : ℕ) → n ≢ 0 → unset_line n ≡ line_text (codes "ip-checksum" ∷ decimal n ∷ [])
+unset_told zero some = absurd (some refl)
 unset_told (suc n) some = refl
 
 -- the whole text, one part behind another
