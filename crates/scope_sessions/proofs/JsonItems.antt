@@ -4,14 +4,17 @@ use Rattle.std.proofs.Math.Seq.{drop-cons}
 use Rattle.std.proofs.lemmas.List.{append-nil, map-append}
 use Rattle.std.proofs.lemmas.Bool.Decides.{nat_tests}
 use Rattle.std.specs.List.{find, flat_map}
+use Rattle.std.specs.Prelude.{codes, decimal}
 use Rattle.book_keys.specs.Rows.{Row, Table}
 use Rattle.book_scope_plan.specs.AdminNames.{KeyFile}
 use Rattle.book_sessions.specs.declared.uses.KeyUse.{KeyUse}
 use Rattle.book_sessions.specs.declared.retiring.MayGo.{MayGo}
+use Rattle.book_sessions.specs.Counts.{all_counted, all_passed}
 use Rattle.book_sessions.specs.KeyLines.{asks_still, last_of}
 use Rattle.book_sessions.specs.Retiring.{Evidence, carries_row, may_go}
-use Rattle.book_sessions_json.specs.Json.{json_comma, json_items, json_object}
-use Rattle.book_sessions_json.specs.SessionJson.{key_json, may_go_json, numbers_to, rows_json, use_json}
+use Rattle.book_sessions.specs.Sessions.{SessionTable}
+use Rattle.book_sessions_json.specs.Json.{json_array, json_comma, json_items, json_member, json_object}
+use Rattle.book_sessions_json.specs.SessionJson.{first_json, key_json, last_json, may_go_json, numbers_to, packets_json, passed_json, rows_json, use_json}
 use Rattle.scope_sessions.specs.JsonParts.{asked_members, id_members, node_members, sender_members, span_members, state_members}
 
 abbrev none : {A : Type 0} → List A → Bool
@@ -57,6 +60,18 @@ some_more (x ∷ xs) ys some = refl
 object_of_three : (out one two three : List ℕ) (xs ys zs : List (List ℕ)) → none xs ≡ false → one ≡ out ++ 123 ∷ json_items true xs → two ≡ one ++ json_items false ys
     → three ≡ two ++ (json_items false zs ++ 125 ∷ []) → three ≡ out ++ json_object ((xs ++ ys) ++ zs)
 object_of_three out one two three xs ys zs some a b c = object_done out two three (xs ++ ys) zs (some_more xs ys some) (members_behind out one two xs ys some a b) c
+
+-- the packets of a capture, in four parts
+pub packets_done : (t : SessionTable) (out one two three four : List ℕ) (segments others : ℕ) → segments ≡ all_counted t.uses → others ≡ all_passed t.passed
+    → one ≡ out ++ 123 ∷ json_items true (json_member (codes "segments") (decimal segments) ∷ json_member (codes "first") (first_json t.uses) ∷ json_member (codes "last") (last_json t.uses) ∷ [])
+    → two ≡ one ++ json_items false (json_member (codes "other") (decimal others) ∷ json_member (codes "reasons") (json_array (map passed_json t.passed)) ∷ [])
+    → three ≡ two ++ json_items false (json_member (codes "ip_checksum") (decimal t.unset) ∷ []) → four ≡ three ++ 125 ∷ [] → four ≡ out ++ packets_json t
+unfolding packets_json
+packets_done t out one two three four segments others m n a b c d =
+    let first = json_member (codes "segments") (decimal (all_counted t.uses)) ∷ json_member (codes "first") (first_json t.uses) ∷ json_member (codes "last") (last_json t.uses) ∷ [] in
+    let middle = json_member (codes "other") (decimal (all_passed t.passed)) ∷ json_member (codes "reasons") (json_array (map passed_json t.passed)) ∷ [] in
+    let last = json_member (codes "ip_checksum") (decimal t.unset) ∷ [] in
+    object_of_three out one two four first middle last refl (rw m at a) (rw n at b) (d ∙ (ap (λ (z : List ℕ). z ++ 125 ∷ []) c ∙ append_assoc two (json_items false last) (125 ∷ [])))
 
 -- segments, in three parts
 pub use_done : (heading u : KeyUse) (out one two three : List ℕ) → one ≡ out ++ 123 ∷ json_items true (sender_members heading u) → two ≡ one ++ json_items false (span_members u)

@@ -62,6 +62,24 @@ one_more_node keys e i tables t before after all low here so_far more =
     let cut : drop i tables ≡ t ∷ drop (i + 1) tables = rw (add-one i) (drop-cons tables i t low ∙ ap (λ x. x ∷ drop (suc i) tables) (sym at_place)) in
     goes_on keys e (drop i tables) (drop (i + 1) tables) t before after all cut so_far more
 
+one_more : (line rest before after all : List ℕ) → before ++ (line ++ rest) ≡ all → after ≡ before ++ line → after ++ rest ≡ all
+one_more line rest before after all so_far more = ap (λ (x : List ℕ). x ++ rest) more ∙ (append_assoc before line rest ∙ so_far)
+
+-- one more row of a node
+pub one_more_row : (keys : KeyFile) (e : Evidence) (t : Table) (i : ℕ) (rows : List Row) (r : Row) (before after all : List ℕ) → i < length rows → r ≡ get_or rows i r
+    → before ++ key_lines keys e t (i + 1) (drop i rows) ≡ all → after ≡ before ++ key_line keys e t (i + 1) r → after ++ key_lines keys e t (i + 1 + 1) (drop (i + 1) rows) ≡ all
+one_more_row keys e t i rows r before after all low here so_far more =
+    let cut : drop i rows ≡ r ∷ drop (i + 1) rows = rw (add-one i) (drop-cons rows i r low ∙ ap (λ x. x ∷ drop (suc i) rows) (sym here)) in
+    let at_row : before ++ key_lines keys e t (i + 1) (r ∷ drop (i + 1) rows) ≡ all = rw cut at so_far in
+    let last : i + 1 + 1 ≡ suc (i + 1) = add-one (i + 1) in
+    rw last (one_more (key_line keys e t (i + 1) r) (key_lines keys e t (suc (i + 1)) (drop (i + 1) rows)) before after all at_row more)
+
+-- a line whose parts were put one behind another
+pub on_line : {E : Type 0} (result : Result (Unit {0}) E) (out a b one two new : List ℕ) → one ≡ out ++ a → two ≡ one ++ b → OnOk result (new ≡ two ++ 10 ∷ []) → OnOk result (new ≡ out ++ (a ++ (b ++ 10 ∷ [])))
+on_line (Ok done) out a b one two new p q r =
+    r ∙ (ap (λ (x : List ℕ). x ++ 10 ∷ []) (q ∙ ap (λ (x : List ℕ). x ++ b) p) ∙ (append_assoc (out ++ a) b (10 ∷ []) ∙ append_assoc out a (b ++ 10 ∷ [])))
+on_line (Err why) out a b one two new p q r = tt
+
 -- the line of segments without a header checksum, where there are some
 pub unset_told : (n : ℕ) → n ≢ 0 → unset_line n ≡ line_text (codes "ip-checksum" ∷ decimal n ∷ [])
 unset_told zero some = absurd (some refl)
