@@ -61,17 +61,24 @@ object_of_three : (out one two three : List ℕ) (xs ys zs : List (List ℕ)) �
     → three ≡ two ++ (json_items false zs ++ 125 ∷ []) → three ≡ out ++ json_object ((xs ++ ys) ++ zs)
 object_of_three out one two three xs ys zs some a b c = object_done out two three (xs ++ ys) zs (some_more xs ys some) (members_behind out one two xs ys some a b) c
 
--- the packets of a capture, in four parts
+-- six members, in three parts, and the brace behind them
+object_of_six : (out one two three four s f l o r u : List ℕ) → one ≡ out ++ (123 ∷ s ++ (44 ∷ f ++ (44 ∷ l))) → two ≡ one ++ (44 ∷ o ++ (44 ∷ r)) → three ≡ two ++ (44 ∷ u) → four ≡ three ++ 125 ∷ []
+    → four ≡ out ++ json_object (s ∷ f ∷ l ∷ o ∷ r ∷ u ∷ [])
+object_of_six out one two three four s f l o r u a b c d =
+    let first : one ≡ out ++ 123 ∷ json_items true (s ∷ f ∷ l ∷ []) = rw (append-nil l) a in
+    let middle : two ≡ one ++ json_items false (o ∷ r ∷ []) = rw (append-nil r) b in
+    let last : four ≡ two ++ (json_items false (u ∷ []) ++ 125 ∷ []) = rw (append-nil u) (d ∙ (ap (λ (z : List ℕ). z ++ 125 ∷ []) c ∙ append_assoc two (44 ∷ u) (125 ∷ []))) in
+    object_of_three out one two four (s ∷ f ∷ l ∷ []) (o ∷ r ∷ []) (u ∷ []) refl first middle last
+
+-- the packets of a capture
 pub packets_done : (t : SessionTable) (out one two three four : List ℕ) (segments others : ℕ) → segments ≡ all_counted t.uses → others ≡ all_passed t.passed
-    → one ≡ out ++ 123 ∷ json_items true (json_member (codes "segments") (decimal segments) ∷ json_member (codes "first") (first_json t.uses) ∷ json_member (codes "last") (last_json t.uses) ∷ [])
-    → two ≡ one ++ json_items false (json_member (codes "other") (decimal others) ∷ json_member (codes "reasons") (json_array (map passed_json t.passed)) ∷ [])
-    → three ≡ two ++ json_items false (json_member (codes "ip_checksum") (decimal t.unset) ∷ []) → four ≡ three ++ 125 ∷ [] → four ≡ out ++ packets_json t
+    → one ≡ out ++ (123 ∷ json_member (codes "segments") (decimal segments) ++ (44 ∷ json_member (codes "first") (first_json t.uses) ++ (44 ∷ json_member (codes "last") (last_json t.uses))))
+    → two ≡ one ++ (44 ∷ json_member (codes "other") (decimal others) ++ (44 ∷ json_member (codes "reasons") (json_array (map passed_json t.passed))))
+    → three ≡ two ++ (44 ∷ json_member (codes "ip_checksum") (decimal t.unset)) → four ≡ three ++ 125 ∷ [] → four ≡ out ++ packets_json t
 unfolding packets_json
 packets_done t out one two three four segments others m n a b c d =
-    let first = json_member (codes "segments") (decimal (all_counted t.uses)) ∷ json_member (codes "first") (first_json t.uses) ∷ json_member (codes "last") (last_json t.uses) ∷ [] in
-    let middle = json_member (codes "other") (decimal (all_passed t.passed)) ∷ json_member (codes "reasons") (json_array (map passed_json t.passed)) ∷ [] in
-    let last = json_member (codes "ip_checksum") (decimal t.unset) ∷ [] in
-    object_of_three out one two four first middle last refl (rw m at a) (rw n at b) (d ∙ (ap (λ (z : List ℕ). z ++ 125 ∷ []) c ∙ append_assoc two (json_items false last) (125 ∷ [])))
+    object_of_six out one two three four (json_member (codes "segments") (decimal (all_counted t.uses))) (json_member (codes "first") (first_json t.uses)) (json_member (codes "last") (last_json t.uses))
+    (json_member (codes "other") (decimal (all_passed t.passed))) (json_member (codes "reasons") (json_array (map passed_json t.passed))) (json_member (codes "ip_checksum") (decimal t.unset)) (rw m at a) (rw n at b) c d
 
 -- segments, in three parts
 pub use_done : (heading u : KeyUse) (out one two three : List ℕ) → one ≡ out ++ 123 ∷ json_items true (sender_members heading u) → two ≡ one ++ json_items false (span_members u)
