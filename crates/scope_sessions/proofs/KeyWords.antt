@@ -75,9 +75,10 @@ one_more_row keys e t i rows r before after all low here so_far more =
     rw last (one_more (key_line keys e t (i + 1) r) (key_lines keys e t (suc (i + 1)) (drop (i + 1) rows)) before after all at_row more)
 
 -- a line whose parts were put one behind another
-pub on_line : {E : Type 0} (result : Result (Unit {0}) E) (out a b one two new : List ℕ) → one ≡ out ++ a → two ≡ one ++ b → OnOk result (new ≡ two ++ 10 ∷ []) → OnOk result (new ≡ out ++ (a ++ (b ++ 10 ∷ [])))
+pub on_line : {E : Type 0} (result : Result (Unit {0}) E) (out a b one two new : List ℕ) → one ≡ out ++ a → two ≡ one ++ b → OnOk result (new ≡ two ++ 10 ∷ [])
+    → OnOk result (new ≡ out ++ (a ++ ((b ++ []) ++ 10 ∷ [])))
 on_line (Ok done) out a b one two new p q r =
-    r ∙ (ap (λ (x : List ℕ). x ++ 10 ∷ []) (q ∙ ap (λ (x : List ℕ). x ++ b) p) ∙ (append_assoc (out ++ a) b (10 ∷ []) ∙ append_assoc out a (b ++ 10 ∷ [])))
+    rw (append-nil b) (r ∙ (ap (λ (x : List ℕ). x ++ 10 ∷ []) (q ∙ ap (λ (x : List ℕ). x ++ b) p) ∙ (append_assoc (out ++ a) b (10 ∷ []) ∙ append_assoc out a (b ++ 10 ∷ []))))
 on_line (Err why) out a b one two new p q r = tt
 
 -- the line of segments without a header checksum, where there are some
