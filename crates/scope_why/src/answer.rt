@@ -195,7 +195,7 @@ fn answer_judged<L: Ledger>(
     stored: StoredBytes<'_>,
 ) -> Result<Answered, AllocError>
     ensures { (b : Behind) → StandsBehind checker.old.entries told.now b
-        → IfOk result (λ a. AnswersJudged (key_file_of question.now checker.old.tables) b question.now.with_key unset (record { number = number; time = stored.time; bytes = stored.bytes.now }) a) }
+        → IfOk result (λ a. AnswersJudged (key_file_of question.now checker.old.tables) b question.now.with_key unset (record { number = number; time = stored.entry.time; bytes = stored.entry.bytes.now }) a) }
 {
     match read_datagram(stored.bytes) {
         Err(fault) => answer_other(
