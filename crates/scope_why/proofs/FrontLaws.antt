@@ -60,11 +60,17 @@ segment_answered keys b with_key unset s d front before now a passes read line m
       passing = is ∙ says.passing;
     }
 
+-- the line of a segment says nothing of its bytes as they were stored
+same_line : (number time : ℕ) (one other : List ℕ) (d : Segment) → segment_line (record { number = number; time = time; bytes = one }) d ≡ segment_line (record { number = number; time = time; bytes = other }) d
+unfolding segment_line
+same_line number time one other d = refl
+
 -- what is told of a packet is told of what is judged of it
 same_text : (keys : KeyFile) (b : Behind) (with_key : Bool) (number time : ℕ) (bytes : List ℕ) (r : Reading)
     → judged_text keys b with_key (lacks_checksum bytes) (record { number = number; time = time; bytes = mended bytes }) r ≡ answer_to_reading keys b with_key (record { number = number; time = time; bytes = bytes }) r
 same_text keys b with_key number time bytes (Bad fault) = refl
-same_text keys b with_key number time bytes (Read d) = refl
+same_text keys b with_key number time bytes (Read d) =
+    ap (λ (x : List ℕ). x ++ (unset_text (lacks_checksum bytes) ++ said_and_why keys b with_key (record { number = number; time = time; bytes = mended bytes }) d)) (same_line number time (mended bytes) bytes d)
 
 judged_found : (keys : KeyFile) (b : Behind) (with_key unset : Bool) (number time : ℕ) (bytes whole : List ℕ) (a : Answered) → lacks_checksum bytes ≡ unset → whole ≡ mended bytes
     → AnswersJudged keys b with_key unset (record { number = number; time = time; bytes = whole }) a → AnswersBehind keys b with_key number (Ok (record { number = number; time = time; bytes = bytes })) a
