@@ -14,9 +14,11 @@ mod laws;
 mod passing;
 mod screen;
 mod syn;
+mod under;
 
 pub use association::Association;
 pub use book_endpoint::Verdict;
 pub use laws::{fits_once_added, fits_once_withdrawn, signed_passes};
 pub use passing::Passing;
 pub use syn::check_syn;
+pub use under::{check_under, mac_under};

@@ -64,6 +64,15 @@ fn fill<L: Ledger>(
     keys[at] = Some(traffic_key(algorithm, master, context, steps));
 }
 
+/// Drops the keys of all places.
+fn drop_all(keys: &mut Vec<Option<TrafficKey>>)
+    ensures { keys.new.items ≡ replicate (length keys.old.items) None }
+{
+    for at in 0..keys.len() {
+        keys[at] = None;
+    }
+}
+
 impl KeyCache {
     /// A cache for so many rows, in which no key is kept.
     pub fn new(alloc: Global, rows: u8) -> Result<KeyCache, AllocError>
@@ -76,6 +85,14 @@ impl KeyCache {
             inbound,
             outbound,
         })
+    }
+
+    /// Drops all keys that are kept; the room for them stays.
+    pub fn forget(&mut self)
+        ensures { self.new ≡ empty self.old.rows }
+    {
+        drop_all(&mut self.inbound);
+        drop_all(&mut self.outbound);
     }
 
     /// Derives the traffic key of a row, from 1 to `rows`, for a way, and keeps it, unless one is kept

@@ -22,4 +22,4 @@ pub use flags::Flag;
 pub use headers::TCP_PROTOCOL;
 pub use laws::parts_put_in_are_kept;
 pub use spelling::{Head, write_datagram};
-pub use sums::fix_checksum;
+pub use sums::{complement, fix_checksum, set_checksum, words};

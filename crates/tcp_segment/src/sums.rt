@@ -26,7 +26,7 @@ pub(crate) fn four(bytes: &[u8], at: usize) -> u32
 }
 
 /// The sum of the big-endian words, an odd length filled with a zero byte.
-pub(crate) fn words(bytes: &[u8]) -> u64
+pub fn words(bytes: &[u8]) -> u64
     requires { length bytes.now < 2 ^ 32 }
     ensures sum { result ≡ words_sum bytes.now }
     ensures small { result ≤ 65535 * length bytes.now }
@@ -70,7 +70,7 @@ pub(crate) fn is_right(bytes: &[u8]) -> bool
 }
 
 /// The complement of the one's complement sum, for a plain sum.
-pub(crate) fn complement(sum: u64) -> u16
+pub fn complement(sum: u64) -> u16
     ensures { result ≡ complement_at sum }
 {
     if sum == 0 {
@@ -116,8 +116,9 @@ pub(crate) fn address_sum(datagram: &[u8]) -> u64
     }
 }
 
-/// Sets the TCP checksum of the datagram in front of a buffer.
-pub(crate) fn set_checksum(out: &mut [u8], header: usize, end: usize)
+/// Sets the TCP checksum of the datagram in front of a buffer, whose TCP header is at `header` and which ends at
+/// `end`. All other bytes stay.
+pub fn set_checksum(out: &mut [u8], header: usize, end: usize)
     requires addresses { 40 ≤ length out.old }
     requires least { header + 20 ≤ end }
     requires most { end < header + 65536 }
