@@ -13,6 +13,7 @@ mod session_ladder;
 mod sessions;
 mod sessions_page;
 mod unopened;
+mod waiting;
 mod why;
 
 use ao_base::{ReadSource, WriteSink};
@@ -23,6 +24,7 @@ use halt::{Halt, end, tell};
 use scope_lines::write_lines;
 use std::process::ExitCode;
 use std::{env, io};
+use waiting::tell_waiting;
 
 /// The words of the command line, the program's name first; an error where one isn't UTF-8.
 fn words(rt: &HostRuntime) -> io::Result<Vec<String>> {
@@ -43,6 +45,9 @@ fn lines(rt: &HostRuntime) -> Result<bool, Halt> {
 
 /// What the words ask for.
 fn run(rt: &HostRuntime, matches: &ArgMatches<'_>) -> u8 {
+    if let Some((word, _)) = matches.subcommand() {
+        let _ = tell_waiting(rt, word);
+    }
     match matches.subcommand() {
         Some(("lines", _)) => end(rt, lines(rt)),
         Some(("sessions", matches)) => sessions::run(rt, matches),

@@ -9,7 +9,7 @@ use ao_run::Asked;
 use book_base::{Bytes, Words};
 use own_text::OwnText;
 use std::fs::File;
-use std::io::{ErrorKind, Read};
+use std::io::{ErrorKind, IsTerminal, Read};
 use std::process::ExitCode;
 use std::{env, io, str};
 
@@ -71,6 +71,24 @@ fn open(rt: &HostRuntime, path: &[u8]) -> io::Result<File> {
     }
 }
 
+/// Tells on standard error that `check` waits for its input, where that is a terminal.
+fn tell_waiting(rt: &HostRuntime, words: &Words) -> Result<(), Failed> {
+    let text: &[u8] = match words.as_slice() {
+        [word, pcap, _]
+            if word.as_slice() == b"check".as_slice() && pcap.as_slice() == b"--pcap".as_slice() =>
+            { b"waiting for a pcap file on standard input: < FILE, or tcpdump -w - |\n" }
+        [word, _] if word.as_slice() == b"check".as_slice() => {
+            b"waiting for stored segments on standard input, each line TIME DATAGRAM; Ctrl-D ends them\n"
+        }
+        _ => return Ok(()),
+    };
+    if rt.stdin().is_terminal() {
+        write_all(&mut WriteSink::new(rt.stderr()), text)
+    } else {
+        Ok(())
+    }
+}
+
 /// The top call over this key file and the standard streams.
 fn run_over<K: Source>(rt: &HostRuntime, asked: &Asked<'_>, keys: &mut K) -> u8 {
     let mut input = ReadSource::new(rt.stdin());
@@ -88,7 +106,10 @@ fn run_words(rt: &HostRuntime, words: &Words) -> u8 {
             run_over(rt, &asked, &mut QuietSource::new(none))
         }
         Some(path) => match open(rt, path) {
-            Ok(file) => run_over(rt, &asked, &mut ReadSource::new(file)),
+            Ok(file) => {
+                let _ = tell_waiting(rt, words);
+                run_over(rt, &asked, &mut ReadSource::new(file))
+            }
             Err(error) => {
                 let _ = tell_unopened(rt, path, &error);
                 run_over(rt, &asked, &mut ReadSource::new(Unopened))
