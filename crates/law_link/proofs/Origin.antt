@@ -19,6 +19,7 @@ use Rattle.book_macs.proofs.Ids.{equal_inputs_equal_meaning}
 use Rattle.book_macs.proofs.Telling.{context_law}
 use Rattle.book_endpoint.specs.States.{EndState}
 use Rattle.book_endpoint.specs.Verdicts.{Finding}
+use Rattle.book_endpoint.specs.declared.arrival.Arrival.TheVariants.{Reset}
 use Rattle.book_endpoint.specs.Arrivals.{arrive}
 use Rattle.book_endpoint.specs.Emissions.{sets, no_mac, own_ao}
 use Rattle.law_link.proofs.Sound.{Sound}
@@ -26,7 +27,7 @@ use Rattle.law_link.proofs.Written.{area_ao}
 use Rattle.book_link.specs.declared.event.Event.{Event}
 use Rattle.book_link.specs.Worlds.{other, Setup, pair_of, Session, Made, Came, Coming, World, side, find, partner, forged, forgeries}
 use Rattle.book_link.specs.Steps.{step}
-use Rattle.law_link.specs.Laws.{SetupFits, EventFits, IsAmong, Repeats, FromPartner, Arrives, HasOrigin, ResetsByAbort}
+use Rattle.law_link.specs.Laws.{SetupFits, EventFits, IsAmong, Repeats, FromPartner, Arrives, HasOrigin, PartnerAborted, ResetsByAbort}
 use Rattle.law_link.proofs.Invariant.{live_sound, live_whole, MadeBy, Inv, blank_in, blank_fits}
 use Rattle.law_link.proofs.Arriving.{Passing, ArrivedOk, arrive_ok, segment_is}
 use Rattle.law_link.proofs.Accounts.{Found, found_made, none_forged, Accounts, accounts_tell}
@@ -175,7 +176,7 @@ origin_of setup w at s bytes p fits sound g f =
 session_is : (a b : Session) → Some a ≡ Some b → a ≡ b
 session_is a b e = cc
 
--- an arrival of an event of a world without a forgery
+-- an arrival of an event that is no forgery
 record Came0 (setup : Setup) (w : World) (r : Came) (s : Session) : Type 0 where
   arrived : ArrivedOk (pair_of setup r.at) s.state r.bytes (arrive (side w r.at).rows (pair_of setup r.at) (side w r.at).clock s.state (reading r.bytes))
   answer : r.answer ≡ (arrive (side w r.at).rows (pair_of setup r.at) (side w r.at).clock s.state (reading r.bytes)).answer
@@ -183,9 +184,9 @@ record Came0 (setup : Setup) (w : World) (r : Came) (s : Session) : Type 0 where
   sound : Sound s.state
   origin : (p : Finding) → r.passed ≡ Some p → (g : Passing (pair_of setup r.at) s.state r.bytes p) → Origin setup w r.at s.state p.number g.segment g.judged.ao
 
-came0 : (setup : Setup) → SetupFits setup → (w : World) (event : Event) → EventFits event → Inv setup w → forgeries (step setup w event).world.history ≡ 0 → (r : Came) (a : Arrives setup w event r)
+came0 : (setup : Setup) → SetupFits setup → (w : World) (event : Event) → EventFits event → Inv setup w → (r : Came) (a : Arrives setup w event r) → forged r.at r.passed w.history ≡ 0
     → Came0 setup w r a.session
-came0 setup fits w event f inv none r a =
+came0 setup fits w event f inv r a none =
     let by = came_by setup fits w event r f inv a.came in
     let same : by.session ≡ a.session = session_is by.session a.session (sym by.lives ∙ a.lives) in
     let s = a.session in
@@ -194,19 +195,24 @@ came0 setup fits w event f inv none r a =
     let rows = (side w r.at).rows in
     let pair = pair_of setup r.at in
     let now = (side w r.at).clock in
-    let all : forgeries (Coming r ∷ w.history) ≡ 0 = ap forgeries (sym a.came) ∙ none in
-    let zero_now : forged r.at r.passed w.history ≡ 0 = omega arith in
     record {
       arrived = arrive_ok rows pair now s.state r.bytes by.bytes sound whole;
       answer = subst (λ (x : Session). r.answer ≡ (arrive rows pair now x.state (reading r.bytes)).answer) same by.answer;
       passed = subst (λ (x : Session). r.passed ≡ (arrive rows pair now x.state (reading r.bytes)).passed) same by.passed;
       sound = sound;
-      origin = λ p is g. origin_of setup w r.at s.state r.bytes p fits sound g (found_made setup w r.at p w.history (none_forged r.at r.passed p w.history is zero_now) inv.made);
+      origin = λ p is g. origin_of setup w r.at s.state r.bytes p fits sound g (found_made setup w r.at p w.history (none_forged r.at r.passed p w.history is none) inv.made);
     }
 
-pub has_origin : (setup : Setup) → SetupFits setup → (w : World) (event : Event) → EventFits event → Inv setup w → HasOrigin setup w event
-has_origin setup fits w event f inv none r a p d is reads plain =
-    let c = came0 setup fits w event f inv none r a in
+-- an arrival is none where no forgery is counted after it
+unforged_at : (setup : Setup) (w : World) (event : Event) (r : Came) (a : Arrives setup w event r) → forgeries (step setup w event).world.history ≡ 0 → forged r.at r.passed w.history ≡ 0
+unforged_at setup w event r a none =
+    let all : forgeries (Coming r ∷ w.history) ≡ 0 = ap forgeries (sym a.came) ∙ none in omega arith
+
+-- an arrival without SYN that passes and is no forgery says what the session's partner had said before
+pub origin_if : (setup : Setup) → SetupFits setup → (w : World) (event : Event) → EventFits event → Inv setup w → (r : Came) (a : Arrives setup w event r) → forged r.at r.passed w.history ≡ 0
+    → (p : Finding) (d : Segment) → r.passed ≡ Some p → reading r.bytes ≡ Read d → has SYN d ≡ false → (ao : Ao) × (find_ao d.area ≡ One ao) × FromPartner w r.at a.session.state p.number d ao
+origin_if setup fits w event f inv r a none p d is reads plain =
+    let c = came0 setup fits w event f inv r a none in
     let g = c.arrived.passing p (sym c.passed ∙ is) in
     let o = c.origin p is g in
     let same : g.segment ≡ d = segment_is g.segment d (sym g.reads ∙ reads) in
@@ -225,9 +231,14 @@ has_origin setup fits w event f inv none r a p d is reads plain =
       subst (λ (x : Segment). FromPartner w r.at a.session.state p.number x g.judged.ao) same from,
     )
 
-pub resets_by_abort : (setup : Setup) → SetupFits setup → (w : World) (event : Event) → EventFits event → Inv setup w → ResetsByAbort setup w event
-resets_by_abort setup fits w event f inv none r a is =
-    let c = came0 setup fits w event f inv none r a in
+pub has_origin : (setup : Setup) → SetupFits setup → (w : World) (event : Event) → EventFits event → Inv setup w → HasOrigin setup w event
+has_origin setup fits w event f inv none r a p d is reads plain = origin_if setup fits w event f inv r a (unforged_at setup w event r a none) p d is reads plain
+
+-- a reset that is no forgery comes only of a partner that had abort called
+pub reset_if : (setup : Setup) → SetupFits setup → (w : World) (event : Event) → EventFits event → Inv setup w → (r : Came) (a : Arrives setup w event r) → forged r.at r.passed w.history ≡ 0
+    → r.answer ≡ Reset → PartnerAborted w r.at a.session.state
+reset_if setup fits w event f inv r a none is =
+    let c = came0 setup fits w event f inv r a none in
     let z = c.arrived.reset (sym c.answer ∙ is) in
     let p = z.0 in
     let g = c.arrived.passing p z.1 in
@@ -237,3 +248,6 @@ resets_by_abort setup fits w event f inv none r a is =
     let stop = o.by.drafted.rst made_rst in
     let plain : has SYN g.segment ≡ false = ap (λ (k : ℕ). (k / 2) % 2 == 1) (sym o.flags) ∙ stop.1 in
     record { session = o.session; is_partner = is_partner setup w r.at a.session.state p.number g.segment g.judged.ao o plain; aborted = o.by.later.stopped stop.0 }
+
+pub resets_by_abort : (setup : Setup) → SetupFits setup → (w : World) (event : Event) → EventFits event → Inv setup w → ResetsByAbort setup w event
+resets_by_abort setup fits w event f inv none r a is = reset_if setup fits w event f inv r a (unforged_at setup w event r a none) is

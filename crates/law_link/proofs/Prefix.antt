@@ -75,7 +75,7 @@ comes others s h from =
     let index : w.what.0 ≡ i = omega arith in
     (f.0, f.1, t, the_partner others s (λ u. GivenAt u (start + i) f.0) w, subst (λ (k : ℕ). slice_get t.state.given k ≡ Some f.0) index w.what.2)))
 
-all_come : (others sessions : List Session) → AllWhole sessions → AllReceived others sessions
+pub all_come : (others sessions : List Session) → AllWhole sessions → AllReceived others sessions
     → AllByRecursion (λ (s : Session). ComesFrom (partner_among others s.state.isn s.state.peer_isn) (s.state.taken ++ ready s.state)) sessions
 all_come others [] whole from = tt
 all_come others (s ∷ rest) whole from = (comes others s.state whole.0 from.0, all_come others rest whole.1 from.1)
@@ -100,7 +100,7 @@ none_ready : (s : EndState) → ready_count s ≡ 0 → ready s ≡ []
 unfolding ready
 none_ready s e = ap (bytes_from s.received (ready_at s)) e
 
-ends : (others : List Session) (s : EndState) → Whole s → Received others s → at_end s ≡ true → IsWhole (partner_among others s.isn s.peer_isn) s.taken
+pub ends : (others : List Session) (s : EndState) → Whole s → Received others s → at_end s ≡ true → IsWhole (partner_among others s.isn s.peer_isn) s.taken
 ends others s h from e =
     let t2 = and_tells (passed_fin s.fin s.expected) (ready_count s == 0) e in
     let k = past_fin_known s.fin s.expected t2.0 in
@@ -126,11 +126,11 @@ all_end others (s ∷ rest) whole from = (ends others s.state whole.0 from.0, al
 
 -- ---- acknowledgement
 
-acked_by : (o : Option Session) (s : EndState) (t : Session) → o ≡ Some t → s.una ≤ t.state.expected → AckedBy o s
+pub acked_by : (o : Option Session) (s : EndState) (t : Session) → o ≡ Some t → s.una ≤ t.state.expected → AckedBy o s
 acked_by None s t is h = absurd (cc)
 acked_by (Some v) s t is h = inr (subst (λ (k : Session). s.una ≤ k.state.expected) (sym (some_is v t is)) h)
 
-low_by : (o : Option Session) (s : EndState) → s.una ≤ s.isn + 1 → AckedBy o s
+pub low_by : (o : Option Session) (s : EndState) → s.una ≤ s.isn + 1 → AckedBy o s
 low_by None s h = h
 low_by (Some v) s h = inl h
 
@@ -156,7 +156,7 @@ ends_whole setup fits events f none e =
     all_end (side w (other e)).sessions (side w e).sessions ((run_inv setup fits events f).whole e) ((run_heard setup fits events f).origin none e)
 
 -- a session whose end was shown is at the end of its stream
-all_shown : (others sessions : List Session) → AllShown sessions
+pub all_shown : (others sessions : List Session) → AllShown sessions
     → AllByRecursion (λ (s : Session). at_end s.state ≡ true → IsWhole (partner_among others s.state.isn s.state.peer_isn) s.state.taken) sessions
     → AllByRecursion (λ (s : Session). s.end_shown ≡ true → IsWhole (partner_among others s.state.isn s.state.peer_isn) s.state.taken) sessions
 all_shown others [] shown h = tt
@@ -171,7 +171,7 @@ pub acknowledges : (setup : Setup) (fits : SetupFits setup) (events : List Event
 acknowledges setup fits events f none few e =
     let w = run setup events in all_acked (side w (other e)).sessions (side w e).sessions ((run_heard setup fits events f).acks none few e)
 
-received_if : (o : Option Session) (s : EndState) → AckedBy o s → IsReceived o s
+pub received_if : (o : Option Session) (s : EndState) → AckedBy o s → IsReceived o s
 received_if None s low = λ i given. omega arith
 received_if (Some t) s (inl low) = λ i given acked. absurd (omega arith)
 received_if (Some t) s (inr up) = λ i given acked. omega arith

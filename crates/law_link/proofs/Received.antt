@@ -1,5 +1,6 @@
 -- Received was given, and acknowledged was received, in each state of each run.
 use Rattle.std.proofs.Common.{◌≡◌, ℕ, ◌+◌, ◌-◌, ◌/◌, ◌%◌, ◌≤◌, ◌^◌, ◌<◌, ◌==◌, Bool, true, false, List, [], ◌∷◌, ◌++◌, length, slice_get, Option, Some, None, ◌⊎◌, inl, inr, ⊎_elim, if◌then◌else◌, refl, sym, ap, ◌∙◌, subst, arith, length-append}
+use Rattle.std.specs.Prelude.{⊤}
 use Rattle.std.specs.List.{AllByRecursion}
 use Rattle.std.proofs.lemmas.Option.{slice_get_within}
 use Rattle.book_base.specs.declared.end.End.{End}
@@ -58,7 +59,7 @@ Acked others s = (s.una ≤ s.isn + 1) ⊎ OfPartner others s (λ t. s.una ≤ t
 abbrev pub AllAcked : List Session → List Session → Type 0
 AllAcked others sessions = AllByRecursion (λ (s : Session). Acked others s.state) sessions
 
-abbrev AllFew : List Session → Type 0
+abbrev pub AllFew : List Session → Type 0
 AllFew sessions = AllByRecursion (λ (s : Session). length s.state.given < 2 ^ 31) sessions
 
 pub record Heard (w : World) : Type 0 where
@@ -86,7 +87,7 @@ of-later others old new P l o =
 pub of-map : (others : List Session) (s : EndState) (P Q : EndState → Type 0) → ((t : EndState) → t.peer_isn ≡ Some s.isn → P t → Q t) → OfPartner others s P → OfPartner others s Q
 of-map others s P Q f o = record { peer = o.peer; knows = o.knows; session = o.session; found = o.found; back = o.back; what = f o.session.state o.back o.what }
 
-received-grows : (others now : List Session) (s : EndState) → Grows others now → Received others s → Received now s
+pub received-grows : (others now : List Session) (s : EndState) → Grows others now → Received others s → Received now s
 received-grows others now s g h =
     record {
       bytes = λ p b e. of-grows others now s (λ t. GivenAt t p b) (λ t u l x. given-later t u p b l x) g (h.bytes p b e);
@@ -95,11 +96,11 @@ received-grows others now s g h =
       gone = λ f e. of-grows others now s (λ t. f < t.next) (λ t u l x. let more = l.sent in omega arith) g (h.gone f e);
     }
 
-all_received-grows : (others now sessions : List Session) → Grows others now → AllReceived others sessions → AllReceived now sessions
+pub all_received-grows : (others now sessions : List Session) → Grows others now → AllReceived others sessions → AllReceived now sessions
 all_received-grows others now [] g h = h
 all_received-grows others now (s ∷ rest) g h = (received-grows others now s.state g h.0, all_received-grows others now rest g h.1)
 
-acked-grows : (others now : List Session) (s : EndState) → Grows others now → Acked others s → Acked now s
+pub acked-grows : (others now : List Session) (s : EndState) → Grows others now → Acked others s → Acked now s
 acked-grows others now s g h =
     ⊎_elim (λ (x : s.una ≤ s.isn + 1). inl x)
     (λ (x : OfPartner others s (λ t. s.una ≤ t.expected)). inr (of-grows others now s (λ t. s.una ≤ t.expected) (λ t u l y. let up = l.up in omega arith) g x)) h
@@ -115,23 +116,37 @@ fewer_forgeries (Some (Coming r)) history e = omega arith
 
 -- ---- what an arrival brings was made by the partner
 
+-- what happens after this history is no forgery
+abbrev pub Unforged : Option Happening → List Happening → Type 0
+Unforged None history = ⊤
+Unforged (Some (Making m)) history = ⊤
+Unforged (Some (Coming r)) history = forged r.at r.passed history ≡ 0
+
+unforged : (happened : Option Happening) (history : List Happening) → forgeries (add happened history) ≡ 0 → Unforged happened history
+unforged None history e = tt
+unforged (Some (Making m)) history e = tt
+unforged (Some (Coming r)) history e = omega arith
+
+origin_now : (setup : Setup) (w : World) (e : End) (s : EndState) (r : Came) (p : Finding) → SetupFits setup → Inv setup w → Sound s → forged r.at r.passed w.history ≡ 0 → r.at ≡ e → r.passed ≡ Some p
+    → (g : Passing (pair_of setup e) s r.bytes p) → Origin setup w e s p.number g.segment g.judged.ao
+origin_now setup w e s r p fits inv sound none at passed g =
+    let z : forged e r.passed w.history ≡ 0 = subst (λ (f : End). forged f r.passed w.history ≡ 0) at none in
+    origin_of setup w e s r.bytes p fits sound g (found_made setup w e p w.history (none_forged e r.passed p w.history passed z) inv.made)
+
 pub passed_origin : (setup : Setup) (w : World) (e : End) (s : EndState) (r : Came) (p : Finding) → SetupFits setup → Inv setup w → Sound s → forgeries (Coming r ∷ w.history) ≡ 0 → r.at ≡ e → r.passed ≡ Some p
     → (g : Passing (pair_of setup e) s r.bytes p) → Origin setup w e s p.number g.segment g.judged.ao
-passed_origin setup w e s r p fits inv sound none at passed g =
-    let zero_now : forged r.at r.passed w.history ≡ 0 = omega arith in
-    let z : forged e r.passed w.history ≡ 0 = subst (λ (f : End). forged f r.passed w.history ≡ 0) at zero_now in
-    origin_of setup w e s r.bytes p fits sound g (found_made setup w e p w.history (none_forged e r.passed p w.history passed z) inv.made)
+passed_origin setup w e s r p fits inv sound none at passed g = origin_now setup w e s r p fits inv sound (unforged (Some (Coming r)) w.history none) at passed g
 
 -- what a segment says of its origin's session
 abbrev pub Says : Setup → (Segment → ℕ → Type 0) → (EndState → Type 0) → Type 0
 Says setup Q P = (d : Segment) (n : ℕ) (ao : Ao) → Q d n → (t : EndState) (m : Made) (h : MadeBy setup t m) → h.draft.flags ≡ d.flags → Repeats m n d ao → P t
 
 pub brought : (setup : Setup) (w : World) (e : End) (s : EndState) (happened : Option Happening) (d : Segment) (n : ℕ) (Q : Segment → ℕ → Type 0) (P : EndState → Type 0) → SetupFits setup → Inv setup w → Sound s
-    → forgeries (add happened w.history) ≡ 0 → HasPassed setup e s happened d n → Q d n → ((c : Segment) (k : ℕ) → Q c k → has SYN c ≡ false) → Says setup Q P → OfPartner (side w (other e)).sessions s P
+    → Unforged happened w.history → HasPassed setup e s happened d n → Q d n → ((c : Segment) (k : ℕ) → Q c k → has SYN c ≡ false) → Says setup Q P → OfPartner (side w (other e)).sessions s P
 brought setup w e s None d n Q P fits inv sound none h q plain says = absurd h
 brought setup w e s (Some (Making m)) d n Q P fits inv sound none h q plain says = absurd h
 brought setup w e s (Some (Coming r)) d n Q P fits inv sound none (at, p, passed, g, segment, number) q plain says =
-    let o = passed_origin setup w e s r p fits inv sound none at passed g in
+    let o = origin_now setup w e s r p fits inv sound none at passed g in
     let here : Q g.segment p.number = subst (λ (c : Segment). Q c p.number) (sym segment) (subst (λ (k : ℕ). Q d k) (sym number) q) in
     let l = o.linked (plain g.segment p.number here) in
     record { peer = l.0; knows = l.1; session = o.session; found = l.2; back = l.3; what = says g.segment p.number g.judged.ao here o.session.state o.made o.by o.flags o.repeats }
@@ -218,8 +233,8 @@ not_past : (a una isn x given : ℕ) → a % ring ≡ una % ring → a ≤ x →
 not_past a una isn x given same le low high few = omega arith
 
 module _ (setup : Setup) (fits : SetupFits setup) (w : World) (e : End) (inv : Inv setup w) (s u : EndState) (happened : Option Happening) (sound : Sound s) (l : Later s u) (gained : Gained setup e s u happened)
-    (none : forgeries (add happened w.history) ≡ 0) where
-  head_received : Received (side w (other e)).sessions s → Received (side w (other e)).sessions u
+    (none : Unforged happened w.history) where
+  pub head_received : Received (side w (other e)).sessions s → Received (side w (other e)).sessions u
   head_received old =
       let others = (side w (other e)).sessions in
       record {
@@ -249,7 +264,7 @@ module _ (setup : Setup) (fits : SetupFits setup) (w : World) (e : End) (inv : I
             (gained.fins f r));
       }
 
-  head_acked : Sound u → Whole u → length u.given < 2 ^ 31 → Acked (side w (other e)).sessions s → Acked (side w (other e)).sessions u
+  pub head_acked : Sound u → Whole u → length u.given < 2 ^ 31 → Acked (side w (other e)).sessions s → Acked (side w (other e)).sessions u
   head_acked sound_u whole_u few old =
       let others = (side w (other e)).sessions in
       let isn = l.same_isn in
@@ -269,7 +284,7 @@ module _ (setup : Setup) (fits : SetupFits setup) (w : World) (e : End) (inv : I
       (of-later others s u (Told u.una) l o))) x)
       gained.acks
 
-few_before : (s u : EndState) → Later s u → length u.given < 2 ^ 31 → length s.given < 2 ^ 31
+pub few_before : (s u : EndState) → Later s u → length u.given < 2 ^ 31 → length s.given < 2 ^ 31
 few_before s u l few =
     let longer = length-append s.given l.grown.0 in
     let same : length u.given ≡ length (s.given ++ l.grown.0) = ap length l.grown.1 in
@@ -311,7 +326,7 @@ head_heard setup fits w e s rest now u happened old new inv sound sound_u whole_
     (λ all. let few : AllFew (u ∷ rest) = subst AllFew new all in
     subst AllFew (sym old) (few_before s.state u.state l few.0, few.1))
     (λ none all. let was : AllReceived others (s ∷ rest) = subst (λ (a : List Session). AllReceived others a) old all in
-    subst (λ (a : List Session). AllReceived others a) (sym new) (head_received setup fits w e inv s.state u.state happened sound l gained none was.0, was.1))
+    subst (λ (a : List Session). AllReceived others a) (sym new) (head_received setup fits w e inv s.state u.state happened sound l gained (unforged happened w.history none) was.0, was.1))
     (λ none all acked. let few : AllFew (u ∷ rest) = subst AllFew new all in
     let was : AllAcked others (s ∷ rest) = subst (λ (a : List Session). AllAcked others a) old acked in
-    subst (λ (a : List Session). AllAcked others a) (sym new) (head_acked setup fits w e inv s.state u.state happened sound l gained none sound_u whole_u few.0 was.0, was.1))
+    subst (λ (a : List Session). AllAcked others a) (sym new) (head_acked setup fits w e inv s.state u.state happened sound l gained (unforged happened w.history none) sound_u whole_u few.0 was.0, was.1))
