@@ -150,7 +150,9 @@ less_few : (n m : ℕ) (sessions : List Session) → n < m → AtMost n sessions
 less_few n m [] low h = tt
 less_few n m (s ∷ rest) low h = let here = h.0 in (omega arith, less_few n m rest low h.1)
 
+-- so many events give each session 65,535 bytes each at most
+pub gives_at_most : (setup : Setup) (events : List Event) → length events ≤ few_events → (e : End) → AllByRecursion (λ (s : Session). length s.state.given ≤ 2147450880) (side (run setup events) e).sessions
+gives_at_most setup events short = run_most 0 2147450880 setup (empty setup) events (omega arith) (both (λ e. AtMost 0 (side (empty setup) e).sessions) tt tt)
+
 pub gives_few : (setup : Setup) (events : List Event) → length events ≤ few_events → GivesFew (run setup events)
-gives_few setup events short =
-    let all = run_most 0 2147450880 setup (empty setup) events (omega arith) (both (λ e. AtMost 0 (side (empty setup) e).sessions) tt tt) in
-    λ e. less_few 2147450880 (2 ^ 31) (side (run setup events) e).sessions (omega arith) (all e)
+gives_few setup events short e = less_few 2147450880 (2 ^ 31) (side (run setup events) e).sessions (omega arith) (gives_at_most setup events short e)
