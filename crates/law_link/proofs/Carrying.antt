@@ -33,6 +33,7 @@ pub record Carries (s : EndState) (out : Draft) : Type 0 where
   pub whole : Whole out.state
   pub context : TellsContext out.flags s.peer_isn
   pub carried : (i b : ℕ) → slice_get out.payload i ≡ Some b → GivenAt s (out.number + i) b
+  pub low : s.isn ≤ out.number
   pub same_received : out.state.received ≡ s.received
   pub same_fin : out.state.fin ≡ s.fin
   pub same_una : out.state.una ≡ s.una
@@ -64,6 +65,7 @@ module _ (s : EndState) (h : Whole s) where
         };
         context = inr (h.ends.resets owed);
         carried = λ i b e. absurd (cc);
+        low = (let a = h.ends.una_low in let b = h.ends.una_high in omega arith);
         same_received = refl;
         same_fin = refl;
         same_una = refl;
@@ -76,6 +78,7 @@ module _ (s : EndState) (h : Whole s) where
         whole = next_whole next top;
         context = inl (refl, refl);
         carried = λ i b e. absurd (cc);
+        low = (let a = h.ends.una_low in let b = h.ends.una_high in omega arith);
         same_received = refl;
         same_fin = refl;
         same_una = refl;
@@ -88,6 +91,7 @@ module _ (s : EndState) (h : Whole s) where
         whole = next_whole next top;
         context = inr (h.ends.known (syn_received_speaks s.phase phase));
         carried = λ i b e. absurd (cc);
+        low = (let a = h.ends.una_low in let b = h.ends.una_high in omega arith);
         same_received = refl;
         same_fin = refl;
         same_una = refl;
@@ -96,7 +100,7 @@ module _ (s : EndState) (h : Whole s) where
 
   ack_carries : is_silent s.phase ≡ false → Carries s (ack_draft s)
   ack_carries speaks =
-      record { whole = h; context = inr (h.ends.known speaks); carried = λ i b e. absurd (cc); same_received = refl; same_fin = refl; same_una = refl; same_expected = refl }
+      record { whole = h; context = inr (h.ends.known speaks); carried = λ i b e. absurd (cc); low = (let a = h.ends.una_low in let b = h.ends.una_high in omega arith); same_received = refl; same_fin = refl; same_una = refl; same_expected = refl }
 
   fin_again_carries : resends s.phase ≡ true → Carries s (fin_again_draft s)
   fin_again_carries phase =
@@ -104,6 +108,7 @@ module _ (s : EndState) (h : Whole s) where
         whole = h;
         context = inr (h.ends.known (resends_speaks s.phase phase));
         carried = λ i b e. absurd (cc);
+        low = (let a = h.ends.una_low in let b = h.ends.una_high in omega arith);
         same_received = refl;
         same_fin = refl;
         same_una = refl;
@@ -122,6 +127,7 @@ data_carries s count phase h =
       whole = next_whole s h (s.next + count) (omega arith);
       context = inr (h.ends.known (sending_speaks s.phase phase));
       carried = slice_carried s s.next count (omega arith);
+      low = (let a = h.ends.una_low in let b = h.ends.una_high in omega arith);
       same_received = refl;
       same_fin = refl;
       same_una = refl;
@@ -134,6 +140,7 @@ again_carries s count phase h =
       whole = h;
       context = inr (h.ends.known (resends_speaks s.phase phase));
       carried = slice_carried s s.una count (h.ends.begun (resends_open s.phase phase));
+      low = (let a = h.ends.una_low in let b = h.ends.una_high in omega arith);
       same_received = refl;
       same_fin = refl;
       same_una = refl;
@@ -153,6 +160,7 @@ fin_carries s phase h =
       };
       context = inr (h.ends.known speaks);
       carried = λ i b e. absurd (cc);
+      low = (let a = h.ends.una_low in let b = h.ends.una_high in omega arith);
       same_received = refl;
       same_fin = refl;
       same_una = refl;
