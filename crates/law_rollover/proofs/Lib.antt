@@ -1,0 +1,4 @@
+pub mod Choosing
+pub mod Hearing
+pub mod Sending
+pub mod Turning
