@@ -3,4 +3,4 @@
 
 mod turns;
 
-pub use turns::{current_key_is_sent_with, rollover_takes_place};
+pub use turns::{current_key_is_sent_with, newest_is_asked_for, rollover_takes_place};

@@ -7,6 +7,7 @@ ghost use Rattle.book_link.specs.declared.event.Event.{Event};
 ghost use Rattle.book_link.specs.Runs.{run};
 ghost use Rattle.book_link.specs.Worlds.{Setup, World};
 ghost use Rattle.law_link.specs.Laws.{SetupFits, EventFits};
+ghost use Rattle.law_rollover.specs.Newest.{IsAskedFor};
 ghost use Rattle.law_rollover.specs.Turning.{HasCurrent, MaySendWith, SendsUnder, TakesPlace};
 
 /// In every run: where the other end prefers a row that this end may send with, and one segment that the
@@ -15,6 +16,13 @@ ghost use Rattle.law_rollover.specs.Turning.{HasCurrent, MaySendWith, SendsUnder
 /// other, both send under it.
 pub fn rollover_takes_place()
     ensures { (setup : Setup) (events : List Event) (e : End) → SetupFits setup → AllByRecursion EventFits events → TakesPlace setup (run setup events) e }
+{}
+
+/// Where both tables have a newest row for the pair, and these meet, the other end asks for it from its start on:
+/// once the other end accepts under its own, and this end may send with its own. So by then, and one segment
+/// from each end to the other, both send under the new key.
+pub fn newest_is_asked_for()
+    ensures { (setup : Setup) (w : World) (e : End) → IsAskedFor setup w e }
 {}
 
 /// An end sends under its current row's key while it may, and that stays its current row.
