@@ -1,5 +1,5 @@
 -- What is so of each answer, whatever the bytes.
-use Rattle.std.proofs.Common.{◌≡◌, ◌≢◌, ◌⊎◌, inl, inr, ℕ, ◌<◌, ◌≤◌, ◌==◌, ◌&&◌, nat_lt, Bool, true, false, List, [], length, Option, Some, None, Result, Ok, Err, if◌then◌else◌, refl, sym, ap, arith, ◌∙◌}
+use Rattle.std.proofs.Common.{◌≡◌, ◌≢◌, inl, inr, ℕ, ◌<◌, ◌≤◌, ◌&&◌, nat_lt, Bool, true, false, List, [], length, Option, Some, None, Result, Ok, Err, if◌then◌else◌, refl, sym, ap, arith, ◌∙◌}
 use Rattle.std.proofs.lemmas.Bool.Decides.{nat_tests}
 use Rattle.book_keys.specs.declared.fault.TableFault.{TableFault}
 use Rattle.book_keys.specs.Nodes.{most_keys, tables_of}
@@ -8,9 +8,9 @@ use Rattle.book_lines.specs.declared.text_fault.TextFault.{TextFault}
 use Rattle.book_answer.specs.declared.command.Command.{Command}
 use Rattle.book_answer.specs.declared.command.Command.TheVariants as command
 use Rattle.book_answer.specs.Answers.{Answer, answer_by, answer_of, answer_over, answer_with_keys, answer_within, bgp_over, done, if_read, judged, keys_too_long, linked, linked_by_shared, linted, long_text, most_input, node_over, refusal, timed_over, too_long, verified}
-use Rattle.book_cmd_check.specs.Captures.{Stored, capture_run, has_refusal}
+use Rattle.book_cmd_check.specs.Captures.{Stored, has_refusal}
 use Rattle.book_answer.specs.Commands.{reads_keys, reads_input}
-use Rattle.book_cmd_keys.specs.KeyTexts.{keys_text, table_fault_line}
+use Rattle.book_cmd_keys.specs.KeyTexts.{table_fault_line}
 use Rattle.book_cmd_link.specs.declared.script.KeysFrom.TheVariants as keys_from
 use Rattle.book_cmd_link.specs.LinkFiles.{script_of}
 use Rattle.book_cmd_keys.specs.LintTexts.{lint_pair_of}
@@ -21,7 +21,7 @@ use Rattle.book_cmd_timed.specs.TimedRuns.{timed_script_of}
 use Rattle.book_cmd_show.specs.Verified.{vectors_of}
 use Rattle.book_lines.specs.Said.{said_in}
 use Rattle.ao_run.specs.Gathered.{answer_in}
-use Rattle.ao_run.specs.Obeys.{asks_keys, asks_input, most_of, writes_along}
+use Rattle.ao_run.specs.Obeys.{asks_keys, asks_input, writes_along}
 use Rattle.book_base.proofs.TestLaws.{either}
 
 -- the answer of a command that reads no key file

@@ -1,7 +1,7 @@
 -- Completeness, from the contract for every command.
-use Rattle.std.proofs.Common.{◌≡◌, ◌≢◌, ◌⊎◌, inl, inr, ℕ, zero, suc, ◌<◌, ◌≤◌, List, [], length, take, Option, Some, None, Ok, Bool, true, false, refl, sym, ap, subst, ◌∙◌, arith}
+use Rattle.std.proofs.Common.{◌≡◌, ◌≢◌, ◌⊎◌, inl, inr, ℕ, zero, suc, ◌<◌, ◌≤◌, List, [], length, take, Option, Some, None, Ok, true, false, refl, sym, ap, subst, ◌∙◌, arith}
 use Rattle.std.proofs.lemmas.List.{length-take}
-use Rattle.ao_base.specs.Outside.{Gave, WasWritten, Rose, IsAtEnd, Side}
+use Rattle.ao_base.specs.Outside.{WasWritten, Rose, IsAtEnd}
 use Rattle.book_keys.specs.Nodes.{most_keys, tables_of}
 use Rattle.book_keys.specs.Rows.{Table}
 use Rattle.book_answer.specs.declared.command.Command.{Command}
@@ -11,7 +11,7 @@ use Rattle.book_answer.specs.Commands.{command_of, reads_input, reads_keys}
 use Rattle.ao_run.specs.Completes.{Completes, IsCalm, Tells}
 use Rattle.ao_run.specs.Gathered.{answer_in}
 use Rattle.ao_run.specs.Obeys.{Along, IsWritten, NotBegun, Obeys, Sides, Unread, asks_input, asks_keys, most_of, text_of, writes_along}
-use Rattle.ao_run.proofs.AnswerLaws.{keyed, long_keys, long_refused, not_two, over_tables, same_answer, three_whatever, unkeyed, within_plain}
+use Rattle.ao_run.proofs.AnswerLaws.{long_keys, long_refused, not_two, over_tables, same_answer, three_whatever, unkeyed, within_plain}
 use Rattle.book_base.proofs.TestLaws.{either}
 use Rattle.ao_run.proofs.Facts.{Facts}
 use Rattle.ao_run.proofs.Given.{all_given, calm, no_more}

@@ -1,5 +1,5 @@
 -- What an end of a command that writes as it reads tells of the command's answer.
-use Rattle.std.proofs.Common.{◌≡◌, ◌≢◌, ℕ, ◌<◌, ◌≤◌, Bool, true, false, List, length, Option, Some, None, if◌then◌else◌, refl, sym, ap, ◌∙◌, arith}
+use Rattle.std.proofs.Common.{◌≡◌, ◌≢◌, ℕ, ◌<◌, ◌≤◌, Bool, true, false, List, length, Option, Some, None, if◌then◌else◌, refl, sym, ap, arith}
 use Rattle.std.specs.Io.KnownBytes.{Consumes}
 use Rattle.ao_base.specs.Outside.{Counts, IsAtEnd, Rose, Side, WasWritten}
 use Rattle.book_keys.specs.Rows.{Table}

@@ -10,20 +10,16 @@ use Rattle.book_keys.specs.declared.fault.TableFault.TheVariants as fault
 use Rattle.book_keys.specs.Nodes.{tables_of}
 use Rattle.book_keys.specs.Reading.{ReadingGives}
 use Rattle.book_keys.specs.Rows.{Table}
-use Rattle.book_lines.specs.declared.text_fault.TextFault.{TextFault}
-use Rattle.book_lines.specs.declared.text_fault.TextFault.TheVariants as text_fault
-use Rattle.book_lines.specs.Faults.{input_fault_text}
-use Rattle.text_lines.specs.Readings.{Answers, Fails}
 use Rattle.book_answer.specs.declared.command.Command.{Command}
-use Rattle.book_answer.specs.Answers.{Answer, answer_of, answer_over, if_read, most_input, refusal, too_many_events}
+use Rattle.book_answer.specs.Answers.{Answer, answer_of, answer_over, most_input, refusal, too_many_events}
 use Rattle.book_answer.specs.Commands.{reads_keys, reads_input}
 use Rattle.book_cmd_keys.specs.KeyTexts.{table_fault_line}
 use Rattle.ao_run.specs.declared.stop.Output.{Output}
 use Rattle.ao_run.specs.declared.stop.Stop.{Stop}
 use Rattle.ao_run.specs.declared.stop.Stop.TheVariants.{Usage, KeysTooLong, Keys, TooLong, Input, TooManyEvents, Read, Write, Memory}
-use Rattle.ao_run.specs.Gathered.{Gathered, InputGathered, KeysGathered, Sources, tables_in, answer_in}
-use Rattle.ao_run.specs.Obeys.{Unread, asks_keys, asks_input, most_of, writes_along}
-use Rattle.ao_run.specs.Stops.{Makes, Stopped, made, status_of, text_of}
+use Rattle.ao_run.specs.Gathered.{Gathered, InputGathered, KeysGathered, tables_in, answer_in}
+use Rattle.ao_run.specs.Obeys.{Unread, writes_along}
+use Rattle.ao_run.specs.Stops.{Makes, Stopped, status_of, text_of}
 use Rattle.ao_run.proofs.AnswerLaws.{faulty_tables, long_input, long_keys, long_plain, over_tables, short_input, unkeyed, unread_four, unread_input, within_plain}
 use Rattle.book_base.proofs.TestLaws.{either}
 

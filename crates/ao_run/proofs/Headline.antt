@@ -3,7 +3,7 @@ use Rattle.std.proofs.Common.{◌≡◌, ◌↔◌, inl, ℕ, ◌==◌, ◌<◌,
 use Rattle.std.specs.List.{AllByRecursion}
 use Rattle.std.proofs.lemmas.Bool.Decides.{nat_tests}
 use Rattle.std.proofs.lemmas.List.Elements.{All-from_get_or}
-use Rattle.ao_base.specs.Outside.{Side, WasWritten, IsAtEnd}
+use Rattle.ao_base.specs.Outside.{Side, IsAtEnd}
 use Rattle.book_keys.specs.declared.fault.TableFault.{TableFault}
 use Rattle.book_keys.specs.Nodes.{most_keys, tables_of}
 use Rattle.book_keys.specs.Plans.{rows_at}
@@ -19,9 +19,8 @@ use Rattle.book_answer.specs.declared.command.Command.TheVariants as command
 use Rattle.book_cmd_node.specs.declared.node.NodeScript.{NodeScript}
 use Rattle.book_cmd_link.specs.declared.script.Script.{Script}
 use Rattle.book_cmd_timed.specs.declared.timed.TimedScript.{TimedScript}
-use Rattle.book_answer.specs.Answers.{Answer, answer_by, answer_of, answer_over, answer_with_keys, answer_within, bgp_over, if_read, judged, keys_too_long, linked, linked_by_shared, most_input, node_over, packets_checked, pcap_fault_line, refusal, reported, spoken, stormed, timed_over, too_long, too_many_events, long_text}
+use Rattle.book_answer.specs.Answers.{Answer, answer_by, answer_of, answer_over, answer_with_keys, answer_within, bgp_over, if_read, judged, keys_too_long, linked, linked_by_shared, linted, most_input, node_over, pcap_fault_line, refusal, reported, stormed, timed_over, too_long, too_many_events, long_text}
 use Rattle.book_cmd_timed.specs.TimedRuns.{most_events}
-use Rattle.book_cmd_check.specs.StoredPackets.{stored_packet}
 use Rattle.book_cmd_bgp.specs.BgpRuns.{bgp_faults}
 use Rattle.book_cmd_check.specs.Captures.{Stored}
 use Rattle.book_answer.specs.Commands.{command_of, reads_input, reads_keys}
@@ -45,7 +44,11 @@ use Rattle.book_base.specs.Hexadecimal.{IsByte}
 use Rattle.law_pcap.specs.LineForms.{line_form}
 use Rattle.law_pcap.proofs.Judged.{answers_alike}
 use Rattle.law_pcap.proofs.Records.{line_form_shows}
-use Rattle.ao_run.specs.Delivers.{CommandsDeliver, Delivers, DeliversPackets, DeliversStorm, HoldsAsSeen, Keyed, LinkFile, MessageFile, NodeFile, Says, TimedFile, named_tables}
+use Rattle.book_cmd_keys.specs.LintTexts.{lint_pair_of}
+use Rattle.book_keys.specs.declared.plan.Plan.{Plan}
+use Rattle.book_lines.specs.Said.{said_in}
+use Rattle.ao_run.proofs.Planned.{ApartAndCarried, all_aligned, all_carried, apart_of}
+use Rattle.ao_run.specs.Delivers.{CarriesAll, CommandsDeliver, Delivers, DeliversPackets, DeliversStorm, HoldsAsSeen, Keyed, LinkFile, MessageFile, NodeFile, Says, TimedFile, named_tables}
 use Rattle.ao_run.specs.Obeys.{Obeys, Sides, asks_input, asks_keys, Along, text_of}
 use Rattle.ao_run.specs.Gathered.{is_ready}
 use Rattle.ao_run.proofs.AnswerLaws.{keyed}
@@ -139,13 +142,15 @@ module _ (words : List (List ℕ)) (k i : List ℕ) (b n : Sides) (s : ℕ) (x :
   known = x.known (omega (arith, small))
 
   -- of a run whose report is the answer
-  delivers : (setup : Setup) (events : List Event) → answer words k i ≡ reported setup events → TablesFit setup → HoldsAsSeen setup events → Lawful setup events → GetsThrough setup events →
+  delivers : (setup : Setup) (events : List Event) → answer words k i ≡ reported setup events → TablesFit setup → HoldsAsSeen setup events → ApartAndCarried setup events → Lawful setup events → GetsThrough setup events →
       Delivers setup events b.out n.out s
-  delivers setup events is tables seen law through = record {
+  delivers setup events is tables seen apart law through = record {
     written = rw is at (x.whole small);
     counted = counted s (forgeries (run setup events).history) (known ∙ ap (λ (y : Answer). y.status) is);
     last_line = last_line setup events;
     as_seen = seen;
+    apart = apart.apart;
+    carried = apart.carried;
     tables = tables;
     lawful = law;
     gets_through = through;
@@ -167,6 +172,7 @@ module _ (words : List (List ℕ)) (k i : List ℕ) (b n : Sides) (s : ℕ) (x :
             delivers setup events (is ∙ within long (reported setup events) 4 s too_many_events small (omega arith) known_is)
             (keyed_tables k tables script.a script.b key_file)
             (seen_of setup (timed_fits k i tables script key_file read) events (expanded_fit setup i script read))
+            (apart_of setup (timed_fits k i tables script key_file read) (keyed_tables k tables script.a script.b key_file) events (expanded_fit setup i script read))
             (lawful setup (timed_fits k i tables script key_file read) events (expanded_fit setup i script read))
             (timed_through k i tables script key_file read few);
       }
@@ -184,6 +190,8 @@ module _ (words : List (List ℕ)) (k i : List ℕ) (b n : Sides) (s : ℕ) (x :
         told = tells_messages setup script.events;
         in_order = speaks_in_order setup script.events fits all;
         as_seen = seen_of setup fits script.events all;
+        apart = (apart_of setup fits (keyed_tables k tables script.a script.b key_file) script.events all).apart;
+        carried = (apart_of setup fits (keyed_tables k tables script.a script.b key_file) script.events all).carried;
         tables = keyed_tables k tables script.a script.b key_file;
         lawful = lawful setup fits script.events all;
         gets_through = keyed_through k i tables script key_file read;
@@ -195,6 +203,7 @@ module _ (words : List (List ℕ)) (k i : List ℕ) (b n : Sides) (s : ℕ) (x :
     written = rw is at (x.whole small);
     counted = counted s (forgeries (run storm_setup (storm_events seed count)).history) (known ∙ ap (λ (y : Answer). y.status) is);
     as_seen = seen_of storm_setup storm_fits (storm_events seed count) (events_fit_storm seed count);
+    apart = (apart_of storm_setup storm_fits storm_tables (storm_events seed count) (events_fit_storm seed count)).apart;
     tables = storm_tables;
     lawful = lawful storm_setup storm_fits (storm_events seed count) (events_fit_storm seed count);
     gets_through = storm_through seed count low;
@@ -274,6 +283,7 @@ linked_file k i b n s x small =
     (λ script found made.
     delivers ws k i b n s x small (setup_of (named_tables script) script.a script.b) script.events made (shared_tables_fit script)
     (seen_of (setup_of (named_tables script) script.a script.b) (shared_fits i script found) script.events (events_fit keys_from.LinkFile i script found))
+    (apart_of (setup_of (named_tables script) script.a script.b) (shared_fits i script found) (shared_tables_fit script) script.events (events_fit keys_from.LinkFile i script found))
     (lawful (setup_of (named_tables script) script.a script.b) (shared_fits i script found) script.events (events_fit keys_from.LinkFile i script found)) (shared_through i script found))
 
 linked_keys_file : (name k i : List ℕ) (b n : Sides) (s : ℕ) → Obeys (codes "link" ∷ name ∷ []) k i b n s → s < 2 →
@@ -285,6 +295,7 @@ linked_keys_file name k i b n s x small =
     (λ script found made.
     delivers ws k i b n s x small (setup_of o.tables script.a script.b) script.events made (keyed_tables k o.tables script.a script.b o.is_key_file)
     (seen_of (setup_of o.tables script.a script.b) (keyed_fits k i o.tables script o.is_key_file found) script.events (events_fit keys_from.KeyFile i script found))
+    (apart_of (setup_of o.tables script.a script.b) (keyed_fits k i o.tables script o.is_key_file found) (keyed_tables k o.tables script.a script.b o.is_key_file) script.events (events_fit keys_from.KeyFile i script found))
     (lawful (setup_of o.tables script.a script.b) (keyed_fits k i o.tables script o.is_key_file found) script.events (events_fit keys_from.KeyFile i script found))
     (keyed_through k i o.tables script o.is_key_file found))
 
@@ -322,6 +333,15 @@ node_file name k i b n s x small =
     let o = over_tables ws command.Node k i b n s x small (named_node name) refl in
     keyed_file ws command.Node k i b n s x small (named_node name) node_script_of node_over (λ tables script. NodeFile tables script b n s) refl refl o refl
     (λ script found made. node_delivers ws k i b n s x small o.tables script made)
+
+-- connections of which `lint` says that all are aligned
+linted_file : (ws : List (List ℕ)) (plan : Plan) (k i : List ℕ) (b n : Sides) (s : ℕ) → Obeys ws k i b n s → s ≡ 0 → command_of ws ≡ Some (command.Lint plan) →
+    Keyed k n.keys (λ tables. Says (said_in lint_pair_of) i n.input (λ said. CarriesAll plan tables said))
+linted_file ws plan k i b n s x zero is =
+    let small : s < 2 = omega arith in
+    let o = over_tables ws (command.Lint plan) k i b n s x small is refl in
+    keyed_file ws (command.Lint plan) k i b n s x small is (said_in lint_pair_of) (λ tables said. linted tables plan said) (λ tables said. CarriesAll plan tables said) refl refl o refl
+    (λ said found made. all_carried k o.tables o.is_key_file plan said (all_aligned o.tables plan said (sym zero ∙ (known ws k i b n s x small ∙ ap (λ (y : Answer). y.status) made))))
 
 -- a pcap file with an output has no fault
 no_fault : (tables : List Table) (stored : List Stored) (fault : Option FileFault) (s : ℕ) → s < 2 → s ≡ (judged tables stored (option_map pcap_fault_line fault)).status → fault ≡ None
@@ -362,5 +382,6 @@ commands_deliver words k i b n s x = record {
   storm = λ seed count is small. stormed_run words seed count k i b n s x small is;
   bgp = λ name is small. message_file name k i b n s (rw is at x) small;
   node = λ name is small. node_file name k i b n s (rw is at x) small;
+  lint = λ plan is zero. linted_file words plan k i b n s x zero is;
   packets = λ name is. packets_delivered name k i b n s (rw is at x);
 }

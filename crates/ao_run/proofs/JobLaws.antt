@@ -1,5 +1,5 @@
 -- A command with the tables of its key file.
-use Rattle.std.proofs.Common.{◌≡◌, ℕ, Bool, true, false, List, [], Option, Some, None, Result, Ok, Err, refl, sym, subst}
+use Rattle.std.proofs.Common.{◌≡◌, ℕ, true, false, List, [], Option, Some, None, Result, Ok, Err, refl, sym, subst}
 use Rattle.ao_base.specs.Outside.{Side}
 use Rattle.ao_base.specs.declared.whole.ReadProblem.{ReadProblem}
 use Rattle.ao_base.specs.declared.whole.ReadProblem.TheVariants as problem

@@ -10,6 +10,7 @@ pub mod JobLaws
 pub mod LineEnds
 pub mod OutcomeLaws
 pub mod PacketEnds
+pub mod Planned
 pub mod Streaming
 pub mod Telling
 pub mod ReportLaws

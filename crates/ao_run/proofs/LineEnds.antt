@@ -1,5 +1,5 @@
 -- What each end of a check of lines tells of the answer of `check KEYS`.
-use Rattle.std.proofs.Common.{◌≡◌, ◌⊎◌, inl, inr, ℕ, ◌+◌, ◌<◌, ◌≤◌, nat_lt, Bool, true, false, List, [], ◌∷◌, ◌++◌, length, take, Option, Some, None, option_map, Result, Ok, Err, refl, sym, ap, ◌∙◌, arith}
+use Rattle.std.proofs.Common.{◌≡◌, inl, inr, ℕ, ◌+◌, ◌<◌, ◌≤◌, nat_lt, Bool, List, [], ◌∷◌, ◌++◌, length, take, Option, Some, option_map, Result, Ok, Err, refl, sym, ap, ◌∙◌, arith}
 use Rattle.std.proofs.lemmas.List.{append-nil, length-take}
 use Rattle.std.specs.Io.KnownBytes.{Consumes}
 use Rattle.book_lines.specs.declared.line_kind.LineKind.{LineKind}
@@ -16,7 +16,7 @@ use Rattle.book_answer.specs.Answers.{Answer, done, line_fault_line, lines_check
 use Rattle.book_cmd_check.specs.Captures.{Stored, capture_run}
 use Rattle.book_cmd_check.specs.StoredLines.{LineFault, StoredInput, stored_from, stored_input}
 use Rattle.ao_run.specs.Gathered.{answer_in}
-use Rattle.ao_run.specs.Obeys.{ChecksLines, EndsSo, Sides, check_end}
+use Rattle.ao_run.specs.Obeys.{ChecksLines, Sides, check_end}
 use Rattle.ao_run.proofs.AnswerLaws.{long_input, short_input}
 use Rattle.ao_run.proofs.Facts.{Facts, Fewer, done_facts, judged_refused, judged_whole, memory_facts, past_output, past_refused, read_facts, refused_facts, write_facts}
 use Rattle.ao_run.proofs.Given.{all_given, no_more}

@@ -1,8 +1,8 @@
 -- A call that obeys its command, status by status, ends in one of the outcomes.
-use Rattle.std.proofs.Common.{◌≡◌, ◌⊎◌, inl, inr, ℕ, zero, suc, ◌<◌, ◌≤◌, Bool, true, false, List, Option, Some, None, refl, sym, ◌∙◌, subst, arith}
+use Rattle.std.proofs.Common.{◌≡◌, inl, inr, ℕ, zero, suc, ◌<◌, Bool, true, false, List, Option, Some, None, refl, sym, ◌∙◌, subst, arith}
 use Rattle.book_answer.specs.declared.command.Command.{Command}
-use Rattle.book_answer.specs.Answers.{Answer, answer_of as answer}
-use Rattle.ao_run.specs.Obeys.{ObeysAs, Offers, Sides, text_of, writes_along}
+use Rattle.book_answer.specs.Answers.{answer_of as answer}
+use Rattle.ao_run.specs.Obeys.{ObeysAs, Offers, Sides, text_of}
 use Rattle.ao_run.specs.Outcomes
 use Rattle.ao_run.specs.Outcomes.{Outcome, EndsAs, EndsIn, EndsByUsage, EndsByKeys, EndsByInput, EndsByReading, EndsByWriting, EndsByMemory, EndsWhole, WasRead, status_in}
 use Rattle.ao_run.proofs.AnswerLaws.{not_two}

@@ -1,5 +1,5 @@
 -- What each end of a check of a pcap file tells of the answer of `check --pcap KEYS`.
-use Rattle.std.proofs.Common.{◌≡◌, ◌⊎◌, inl, inr, ℕ, ◌<◌, ◌≤◌, nat_lt, Bool, true, false, List, [], ◌∷◌, ◌++◌, length, map, take, Option, Some, None, option_map, Result, Ok, Err, refl, sym, ap, ◌∙◌, append_assoc, arith}
+use Rattle.std.proofs.Common.{◌≡◌, inl, inr, ℕ, ◌<◌, ◌≤◌, nat_lt, Bool, List, [], ◌∷◌, ◌++◌, length, map, take, Option, Some, option_map, Result, Ok, Err, refl, sym, ap, ◌∙◌, append_assoc, arith}
 use Rattle.std.proofs.lemmas.List.{length-take, map-append}
 use Rattle.std.specs.Io.KnownBytes.{Consumes}
 use Rattle.ao_base.specs.Outside.{Side, told}
@@ -16,7 +16,7 @@ use Rattle.book_answer.specs.Answers.{Answer, done, long_text, packets_checked, 
 use Rattle.book_cmd_check.specs.StoredPackets.{stored_packet}
 use Rattle.book_cmd_check.specs.Captures.{Stored, capture_run}
 use Rattle.ao_run.specs.Gathered.{answer_in}
-use Rattle.ao_run.specs.Obeys.{ChecksPackets, EndsSo, Sides, check_end}
+use Rattle.ao_run.specs.Obeys.{ChecksPackets, Sides, check_end}
 use Rattle.ao_run.proofs.AnswerLaws.{long_input, short_input}
 use Rattle.ao_run.proofs.Facts.{Facts, Fewer, done_facts, judged_refused, judged_whole, memory_facts, past_output, past_refused, read_facts, refused_facts, write_facts}
 use Rattle.ao_run.proofs.Given.{no_more}

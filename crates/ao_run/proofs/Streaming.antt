@@ -1,5 +1,5 @@
 -- The ways in which a command ends that writes as it reads.
-use Rattle.std.proofs.Common.{◌≡◌, ◌≢◌, ◌⊎◌, inl, inr, ℕ, ◌+◌, ◌<◌, ◌≤◌, Bool, true, false, List, [], length, Option, Some, None, Result, Ok, Err, if◌then◌else◌, refl, sym, ap, subst, ◌∙◌, arith}
+use Rattle.std.proofs.Common.{◌≡◌, ◌≢◌, ◌⊎◌, inl, inr, ℕ, ◌+◌, ◌<◌, ◌≤◌, Bool, true, List, [], length, Option, Some, Result, Ok, Err, if◌then◌else◌, refl, sym, ap, subst, ◌∙◌, arith}
 use Rattle.ao_base.specs.Outside.{Side, Gave}
 use Rattle.ao_base.proofs.Sides.{gave_none, took_none}
 use Rattle.book_keys.specs.Rows.{Table}
@@ -10,14 +10,14 @@ use Rattle.cmd_check.specs.declared.halt.Halt.{Halt}
 use Rattle.cmd_check.specs.declared.halt.Halt.TheVariants as halt
 use Rattle.book_answer.specs.declared.command.Command.{Command}
 use Rattle.book_answer.specs.declared.command.Command.TheVariants as commands
-use Rattle.book_answer.specs.Answers.{Answer, answer_of as answer, memory, most_input, refusal}
+use Rattle.book_answer.specs.Answers.{Answer, answer_of as answer, most_input, refusal}
 use Rattle.book_answer.specs.Commands.{reads_input, reads_keys}
 use Rattle.ao_run.specs.declared.stop.Stop.{Stop}
 use Rattle.ao_run.specs.declared.stop.Stop.TheVariants.{Usage, KeysTooLong, Keys, TooLong, Input, TooManyEvents, Read, Write, Memory}
 use Rattle.ao_run.specs.Ended.{Ended, EndedBehind}
-use Rattle.ao_run.specs.Gathered.{KeysGathered, Sources}
+use Rattle.ao_run.specs.Gathered.{KeysGathered}
 use Rattle.ao_run.specs.Jobs.{check_command}
-use Rattle.ao_run.specs.Obeys.{Along, Begun, ChecksLines, ChecksPackets, EndsSo, NotBegun, ObeysAs, Offers, Sides, check_end, past_limit, text_of as text_with, writes_along}
+use Rattle.ao_run.specs.Obeys.{Along, ChecksLines, ChecksPackets, EndsSo, NotBegun, ObeysAs, Offers, Sides, check_end, past_limit, text_of as text_with, writes_along}
 use Rattle.ao_run.specs.Stops.{IsHalted, Stopped, status_of, text_of}
 use Rattle.ao_run.proofs.AnswerLaws.{within_plain}
 use Rattle.ao_run.proofs.Facts.{Facts}

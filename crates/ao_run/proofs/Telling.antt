@@ -10,8 +10,8 @@ use Rattle.ao_run.specs.declared.stop.Output.{Output}
 use Rattle.ao_run.specs.declared.stop.Stop.{Stop}
 use Rattle.ao_run.specs.declared.stop.Stop.TheVariants.{Usage, KeysTooLong, Keys, TooLong, Input, TooManyEvents, Read, Write, Memory}
 use Rattle.ao_run.specs.Ended.{Ended}
-use Rattle.ao_run.specs.Gathered.{Gathered, Sources}
-use Rattle.ao_run.specs.Obeys.{Along, IsWritten, ObeysAs, Offers, ReadsAll, Sides, WritesNothing, asks_keys, most_of, past_limit, text_of as text_with, writes_along}
+use Rattle.ao_run.specs.Gathered.{Gathered}
+use Rattle.ao_run.specs.Obeys.{Along, IsWritten, Offers, ReadsAll, Sides, WritesNothing, asks_keys, most_of, past_limit, text_of as text_with, writes_along}
 use Rattle.ao_run.specs.Stops.{made, status_of, text_of}
 
 -- a text that was written, or that in front

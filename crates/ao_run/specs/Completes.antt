@@ -1,5 +1,5 @@
 -- That the program does what it is for. Its top is `Completes` (own).
-use Rattle.std.specs.Prelude.{◌≡◌, ◌⊎◌, ℕ, ◌<◌, Bool, true, List, [], length, Some}
+use Rattle.std.specs.Prelude.{◌≡◌, ◌⊎◌, ℕ, ◌<◌, Bool, true, List, length, Some}
 use Rattle.ao_base.specs.Outside.{Side, WasWritten, Rose}
 use Rattle.book_answer.specs.Answers.{answer_of}
 use Rattle.book_answer.specs.Commands.{command_of}

@@ -1,10 +1,13 @@
 -- The headlines: what the commands that run say of every input, over every key file. Its top is
 -- `CommandsDeliver` (own).
-use Rattle.std.specs.Prelude.{◌≡◌, ◌↔◌, ℕ, ◌<◌, ◌≤◌, List, [], ◌∷◌, ◌++◌, length, All, true, false}
+use Rattle.std.specs.Prelude.{◌≡◌, ◌↔◌, ℕ, ◌<◌, ◌≤◌, List, [], ◌∷◌, ◌++◌, length}
 use Rattle.std.specs.Prelude.{codes, Some, Result, Ok, None}
+use Rattle.std.specs.List.{AllByRecursion}
+use Rattle.book_base.specs.declared.end.End.{End}
 use Rattle.book_base.specs.declared.address.Pair.{Pair}
 use Rattle.ao_base.specs.Outside.{Side, WasWritten, IsAtEnd}
 use Rattle.book_keys.specs.Nodes.{tables_of}
+use Rattle.book_keys.specs.declared.plan.Plan.{Plan}
 use Rattle.book_keys.specs.Plans.{rows_at}
 use Rattle.book_keys.specs.Rows.{Row, Table}
 use Rattle.book_lines.specs.declared.text_fault.TextFault.{TextFault}
@@ -13,7 +16,7 @@ use Rattle.book_link.specs.Reports.{report, counts_line, summary}
 use Rattle.book_link.specs.Runs.{run}
 use Rattle.book_link.specs.Storm.{storm_events, storm_setup}
 use Rattle.book_link.specs.Worlds.{Setup, forgeries, setup_of}
-use Rattle.book_answer.specs.declared.command.Command.TheVariants.{Storm}
+use Rattle.book_answer.specs.declared.command.Command.TheVariants.{Lint, Storm}
 use Rattle.book_cmd_node.specs.declared.node.NodeEvent.{NodeEvent}
 use Rattle.book_cmd_node.specs.declared.node.NodeScript.{NodeScript}
 use Rattle.book_cmd_link.specs.declared.script.Script.{Script}
@@ -24,6 +27,8 @@ use Rattle.book_cmd_timed.specs.TimedRuns.{most_events}
 use Rattle.book_cmd_link.specs.declared.script.KeysFrom.TheVariants as keys_from
 use Rattle.book_cmd_link.specs.LinkFiles.{shared_by}
 use Rattle.book_cmd_bgp.specs.BgpRuns.{bgp_faults, bgp_text}
+use Rattle.book_cmd_keys.specs.LintTexts.{lint_pair_of}
+use Rattle.book_lines.specs.Said.{Said, said_in}
 use Rattle.book_answer.specs.Commands.{command_of}
 use Rattle.book_cmd_link.specs.LinkFiles.{script_of}
 use Rattle.book_cmd_node.specs.NodeRuns.{node_script_of, node_text}
@@ -32,7 +37,10 @@ use Rattle.book_cmd_timed.specs.TimedRuns.{expand, timed_script_of}
 use Rattle.book_pcap.specs.Packets.{most_capture, packets_of}
 use Rattle.cmd_bgp.specs.Tellings.{SpeaksInOrder, TellsMessages}
 use Rattle.law_headline.specs.GetsThrough.{GetsThrough}
-use Rattle.law_headline.specs.Lawful.{Lawful}
+use Rattle.law_aligned.specs.Carried.{Carries, IsAligned, KeepsTables}
+use Rattle.law_apart.specs.Apart.{EachHasOrigin, EachResetIsAnAbort, SessionBySession}
+use Rattle.law_headline.specs.Lawful.{AtEachEvent, AtEachMoment, Lawful}
+use Rattle.law_link.specs.Headline.{few_events}
 use Rattle.law_link.specs.Laws.{TablesFit}
 use Rattle.law_seen.specs.Seen.{AcknowledgesReceived, ReliableUnlessForged}
 use Rattle.law_seen.specs.Summaries.{SummarySaysSeen}
@@ -67,6 +75,23 @@ pub record HoldsAsSeen (setup : Setup) (events : List Event) : Type 0 where
   -- the lines of the sessions say what is seen of them
   pub summary : SummarySaysSeen setup events
 
+-- what holds of a run of these events session by session, and arrival by arrival (own)
+pub record HoldsApart (setup : Setup) (events : List Event) : Type 0 where
+  -- a forgery in one session voids its own promises, and not those of others
+  pub session_by_session : AtEachMoment setup events SessionBySession
+  -- an arrival that is no forgery says what the session's partner had said before, and a reset by
+  -- one comes only of a partner that was aborted
+  pub has_origin : AtEachEvent setup events (EachHasOrigin setup)
+  pub reset_by_abort : AtEachEvent setup events (EachResetIsAnAbort setup)
+
+-- where `lint` calls the tables with which both ends begin `aligned` for a plan, and no row is added
+-- or withdrawn: what comes as it was made, in time, is admitted, and no send lacks a key (own)
+abbrev pub CarriedWhereAligned : Setup → List Event → Type 0
+CarriedWhereAligned setup events =
+    (plan : Plan) → IsAligned plan setup → AllByRecursion KeepsTables events
+    → length events ≤ few_events
+    → AtEachMoment setup events (λ w. (e : End) → Carries plan setup w e)
+
 -- what holds of the run of these events, with the status of the call (own)
 pub record Delivers (setup : Setup) (events : List Event) (out_before out_now : Side) (status : ℕ)
     : Type 0 where
@@ -78,6 +103,10 @@ pub record Delivers (setup : Setup) (events : List Event) (out_before out_now : 
   pub last_line : (front : List ℕ) × (report setup events ≡ front ++ counts_line (run setup events))
   -- prefix, nobody's peer, end of stream, and acknowledgement, by what is seen
   pub as_seen : HoldsAsSeen setup events
+  -- the same of one session and of one arrival, whatever is forged in others
+  pub apart : HoldsApart setup events
+  -- tables that `lint` calls aligned carry it
+  pub carried : CarriedWhereAligned setup events
   -- the tables with which its ends begin have no overlap (RFC 7210, section 3)
   pub tables : TablesFit setup
   -- prefix, what was received and made, one partner, end of stream, rollover, no gap, origin, reset
@@ -108,6 +137,10 @@ pub record DeliversMessages (setup : Setup) (events : List Event) (out_before ou
   pub in_order : SpeaksInOrder (run setup events)
   -- prefix, nobody's peer, end of stream, and acknowledgement, by what is seen
   pub as_seen : HoldsAsSeen setup events
+  -- the same of one session and of one arrival, whatever is forged in others
+  pub apart : HoldsApart setup events
+  -- tables that `lint` calls aligned carry it
+  pub carried : CarriedWhereAligned setup events
   -- the tables with which its ends begin have no overlap (RFC 7210, section 3)
   pub tables : TablesFit setup
   -- prefix, what was received and made, one partner, end of stream, rollover, no gap, origin, reset
@@ -125,6 +158,7 @@ pub record DeliversStorm (events : List Event) (out_before out_now : Side) (stat
   pub counted : (status ≡ 0) ↔ (forgeries (run storm_setup events).history ≡ 0)
   -- as of a link's run
   pub as_seen : HoldsAsSeen storm_setup events
+  pub apart : HoldsApart storm_setup events
   pub tables : TablesFit storm_setup
   pub lawful : Lawful storm_setup events
   pub gets_through : GetsThrough storm_setup events
@@ -186,6 +220,20 @@ abbrev pub NodeFile : List Table → NodeScript → (before now : Sides) → ℕ
 NodeFile tables s before now status =
     DeliversNode (rows_at tables s.address) s.events before.out now.out status
 
+-- the tables carry each run of a link file over them between these two sockets (own)
+abbrev pub CarriesLinkFiles : Plan → List Table → Pair → Type 0
+CarriesLinkFiles plan tables pair =
+    (file : List ℕ) (s : Script) → script_of keys_from.KeyFile file ≡ Ok s
+    → s.a ≡ pair.local → s.b ≡ pair.remote
+    → AllByRecursion KeepsTables s.events → length s.events ≤ few_events
+    → AtEachMoment (setup_of tables s.a s.b) s.events
+    (λ w. (e : End) → Carries plan (setup_of tables s.a s.b) w e)
+
+-- so they carry each of these connections (own)
+abbrev pub CarriesAll : Plan → List Table → List (Said Pair) → Type 0
+CarriesAll plan tables said =
+    AllByRecursion (λ (s : Said Pair). CarriesLinkFiles plan tables s.value) said
+
 -- what holds of a call with the words of each command, once it is done (own)
 pub record CommandsDeliver (words : List (List ℕ)) (keys input : List ℕ) (before now : Sides)
     (status : ℕ) : Type 0 where
@@ -208,5 +256,8 @@ pub record CommandsDeliver (words : List (List ℕ)) (keys input : List ℕ) (be
   pub node : (name : List ℕ) → words ≡ codes "node" ∷ name ∷ [] → status < 2 →
       Keyed keys now.keys
       (λ tables. Says node_script_of input now.input (λ s. NodeFile tables s before now status))
+  pub lint : (plan : Plan) → command_of words ≡ Some (Lint plan) → status ≡ 0 →
+      Keyed keys now.keys
+      (λ tables. Says (said_in lint_pair_of) input now.input (λ said. CarriesAll plan tables said))
   pub packets : (name : List ℕ) → words ≡ codes "check" ∷ codes "--pcap" ∷ name ∷ [] →
       DeliversPackets name keys input status

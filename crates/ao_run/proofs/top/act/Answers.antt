@@ -2,7 +2,6 @@ use Rattle.std.proofs.Common.{[], refl, None}
 use Rattle.ao_run.specs.declared.stop.Stop.TheVariants.{Usage}
 use Rattle.ao_run.specs.Jobs.{job_command, job_tables}
 use Rattle.ao_run.proofs.Gathering.{usage_gathered}
-use Rattle.ao_run.proofs.JobLaws.{job_ready}
 use Rattle.ao_run.proofs.Streaming.{done_behind, unprepared}
 use Rattle.ao_run.proofs.Telling.{refused_ends}
 use Rattle.ao_run.proofs.top.act.Goals as goal
