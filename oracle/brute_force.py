@@ -37,7 +37,7 @@ def nodes_of(keys):
 @dataclasses.dataclass
 class Packet:
     """A packet with a segment. `isns` are those of its sender and receiver where it is verified, `row` the receiver's row, from 0, and `after` the
-    number behind its last byte; `is_open` where what would judge it isn't known."""
+    number behind its last byte; `is_open` where what would judge it isn't known; `is_cut` where its headers alone are there."""
 
     number: int
     time: int
@@ -48,6 +48,7 @@ class Packet:
     is_fresh: bool = False
     is_copy: bool = False
     is_open: bool = False
+    is_cut: bool = False
 
     @property
     def way(self):
@@ -79,17 +80,27 @@ def segment_of(data):
     return Segment((source, source_port), (destination, port), sequence, acknowledgement, flags, area, payload, options_of(area), window)
 
 
+def headers_of(data, missing):
+    """The segment of a datagram of which so many bytes are missing at its end, where they are all of its payload."""
+    if len(data) < (40 if data[:1] and data[0] >> 4 == 6 else 20) + 20:
+        return None
+    found = segment_of(data + bytes(missing))
+    return found if found and len(found.payload) >= missing else None
+
+
 def packets_of(file):
-    """The packets that are segments, and whether one was cut."""
+    """The packets that are segments, and whether one was cut in its headers."""
     link, at, number, packets, is_cut = struct.unpack("<I", file[20:24])[0], 24, 0, [], False
     while at < len(file):
         second, _, kept, whole = struct.unpack("<IIII", file[at : at + 16])
         frame, number, at = file[at + 16 : at + 16 + kept], number + 1, at + 16 + kept
-        is_cut |= kept < whole
-        if kept < whole or link == 1 and frame[12:14] not in (b"\x08\x00", b"\x86\xdd"):
+        if link == 1 and len(frame) >= 14 and frame[12:14] not in (b"\x08\x00", b"\x86\xdd"):
+            is_cut |= kept < whole
             continue
-        found = segment_of(frame[14:] if link == 1 else frame)
-        packets += [Packet(number, second, found)] if found else []
+        data = frame[14:] if link == 1 else frame
+        found = headers_of(data, whole - kept) if kept < whole else segment_of(data)
+        is_cut |= kept < whole and found is None
+        packets += [Packet(number, second, found, is_cut=kept < whole)] if found else []
     return packets, is_cut
 
 
@@ -123,7 +134,7 @@ class Judge:
         node = self.node(it.destination[0])
         if it.ids is None:
             return
-        if node is None:
+        if node is None or packet.is_cut:
             packet.is_open = True
             return
         tries = self.tries(it)
@@ -249,7 +260,7 @@ class Judge:
         node = self.nodes[node_number]
         row, live = node.rows[n], self.live
         at_row = {pair for it in live if (pair := self.own_first(node, row, it))}
-        found = ["a packet was cut"] * self.is_cut
+        found = ["a packet was cut in its headers"] * self.is_cut
         met = {pair[1][0] for it in self.lasting if (pair := self.own_first(node, row, it))}
         listed = [it for it in row.peers if it != "any"]
         found += [f"{it} wasn't seen" for it in listed if it not in met] + ["nobody was seen"] * (not met)

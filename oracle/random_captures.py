@@ -255,6 +255,13 @@ def merged(draw, network, streams):
             yield network.second, it
 
 
+def kept_of(draw, whole, payload, cut):
+    """What the snapshot keeps of a packet: now and then all but a part of its payload, or anything less."""
+    if cut == "payload" and payload and draw.random() < 0.4:
+        return whole[: len(whole) - draw.randint(1, payload)]
+    return whole[: draw.randint(0, len(whole) - 1)] if cut == "anywhere" and draw.random() < 0.05 else whole
+
+
 def capture(seed):
     """A key file and a capture as a classic pcap file."""
     draw = random.Random(seed)
@@ -266,7 +273,7 @@ def capture(seed):
         packets = between(draw, packets)
     link, latest, late, back = draw.choice((1, 101)), NOW, 0, draw.randrange(len(packets)) if draw.random() < 0.15 else None
     file = struct.pack("<IHHIIII", 0xA1B2C3D4, 2, 4, 0, 0, 262_144, link)
-    is_cut, others = draw.random() < 0.06, draw.random() < 0.2
+    cut, others = draw.choice(("payload", "payload", "anywhere") + (None,) * 17), draw.random() < 0.2
     for n, (second, it) in enumerate(packets):
         late = draw.randint(30, 900) if n == back else late
         latest = max(latest, second)
@@ -274,6 +281,6 @@ def capture(seed):
         for datagram, frame in shown_now:
             kind = b"\x86\xdd" if datagram and datagram[0] >> 4 == 6 else b"\x08\x00"
             whole = datagram if link == 101 else bytes(12) + (frame or kind + datagram)
-            kept = whole[: draw.randint(0, len(whole) - 1)] if is_cut and draw.random() < 0.05 else whole
+            kept = kept_of(draw, whole, len(it.payload) if datagram == it.datagram() else 0, cut)
             file += struct.pack("<IIII", latest - late, draw.randrange(10**6), len(kept), len(whole)) + kept
     return key_file(network.listed), file
