@@ -34,7 +34,6 @@ v6_octets : (a : Address) → IsV6 a → length (octets a) ≡ 16
 v6_octets (V4 bytes) h = absurd h
 v6_octets (V6 bytes) h = h.0
 
-
 -- ---- a spelling is its IP header, and then the TCP bytes
 
 pub spell_split : (i : IpHeader) (d : Segment) (t : List ℕ) → spell_as i d t ≡ spell_as i d [] ++ t
