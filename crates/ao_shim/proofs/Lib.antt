@@ -1,0 +1,7 @@
+pub mod InLaws
+pub mod KeptLaws
+pub mod LongLaws
+pub mod OutLaws
+pub mod PlanLaws
+pub mod SealLaws
+pub mod TakenLaws

@@ -1,0 +1,18 @@
+//! TCP-AO for a kernel's TCP that has none (RFC 5925): the two ways of the datagrams of one pair of
+//! sockets. `Guard::outbound` seals what the own kernel sends, and `Guard::inbound` checks what comes
+//! from the peer and takes the option off. Each writes what goes on into a buffer of the caller's, or
+//! says why nothing does. After `Guard::new` nothing takes memory.
+#![tactic(auto)]
+
+mod arrival;
+mod arriving;
+mod facts;
+mod guard;
+mod inbound;
+mod leaving;
+mod outbound;
+mod plan;
+mod seal;
+
+pub use book_shim::{Isns, Kept, Unsent, Untaken};
+pub use guard::Guard;
