@@ -143,7 +143,7 @@ some_pass : (b : Bool) (h k : Heard) → is_pass h.saying ≡ b → (if b then S
 some_pass true h k is e = sym (ap (λ (o : Option Heard). is_pass (unwrap_or o h).saying) e) ∙ is
 some_pass false h k is e = absurd (cc)
 
-ahead_passes : (b : Bool) (h k : Heard) → (if b then if_pass h else None) ≡ Some k → is_pass k.saying ≡ true
+pub ahead_passes : (b : Bool) (h k : Heard) → (if b then if_pass h else None) ≡ Some k → is_pass k.saying ≡ true
 ahead_passes true h k e = some_pass (is_pass h.saying) h k refl e
 ahead_passes false h k e = absurd (cc)
 

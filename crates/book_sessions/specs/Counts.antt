@@ -64,7 +64,8 @@ abbrev pub checked_by : List Table → List Connection → List Opening → (now
 checked_by tables held openings now (Bad fault) =
     heard_once (hear_read tables held now (Bad fault)) [] openings
 checked_by tables held openings now (Read d) = let h = hear_read tables held now (Read d) in
-    heard_once (heard_anew (is_opened_anew d held openings) h) [] (openings_after d h.saying openings)
+    heard_once (heard_anew (is_opened_anew d held openings) h) []
+    (openings_after d h.saying openings)
 
 -- the segments of stored datagrams, each with what `check` says of it (own)
 abbrev pub segments_seen : List Table → List Connection → List Opening → List Stored →

@@ -33,5 +33,5 @@ filled_segment n (Read d) = if nat_le n (length d.payload) then Some d else None
 -- the segment that was cut off within its payload, so that its IP header, its TCP header and its
 -- options are there (own)
 unfoldable pub cut_segment : List ℕ → Option Segment
-cut_segment b =
-    if is_truncated (reading b) then filled_segment (missing b) (reading (mended (filled b))) else None
+cut_segment b = if is_truncated (reading b)
+    then filled_segment (missing b) (reading (mended (filled b))) else None
