@@ -1,7 +1,7 @@
 -- What segments tell of initial sequence numbers where no handshake is verified (RFC 9293, section
 -- 3.5, and own). Its tops: `openings_after`, `told_anew` and `glimpsed`.
 use Rattle.std.specs.Prelude.{ℕ, ◌==◌, Bool, true, false, not, ◌&&◌, ◌||◌, List, [], ◌∷◌}
-use Rattle.std.specs.Prelude.{Option, Some, None, if◌then◌else◌, Err}
+use Rattle.std.specs.Prelude.{Option, Some, None, if◌then◌else◌, Err, filter}
 use Rattle.std.specs.List.{find}
 use Rattle.book_base.specs.declared.address.Socket.{Socket}
 use Rattle.book_segments.specs.Segments.{Segment, has, SYN, ACK}
@@ -13,8 +13,8 @@ use Rattle.book_cmd_check.specs.Captures.{Connection, Saying, Judged, acknowledg
 use Rattle.book_cmd_check.specs.Captures.{connection_between, is_pass}
 use Rattle.book_cmd_check.specs.Handshakes.{and_given, told_by}
 
--- a SYN without ACK, seen or told by its answer: its sockets, its initial sequence number, and
--- whether it was verified (RFC 9293, section 3.5)
+-- a SYN without ACK: its sockets, its initial sequence number, and whether it was verified (RFC
+-- 9293, section 3.5)
 pub record Opening : Type 0 where
   pub source : Socket
   pub destination : Socket
@@ -28,15 +28,6 @@ opening_of d said = record {
   destination = d.destination;
   isn = d.sequence;
   passes = is_pass said;
-}
-
--- the SYN that a SYN with ACK acknowledges, as one that wasn't verified (RFC 9293, section 3.5)
-abbrev pub opening_answered : Segment → Opening
-opening_answered d = record {
-  source = d.destination;
-  destination = d.source;
-  isn = acknowledged_isn d;
-  passes = false;
 }
 
 -- an opening went from one socket to another (own)
@@ -69,20 +60,24 @@ abbrev pub opens_with : (isn : ℕ) → Option Opening → Bool
 opens_with isn None = false
 opens_with isn (Some o) = o.isn == isn
 
--- the openings once an answer told this one: that between its sockets stays where it has this
--- number already (own)
-abbrev pub with_answered : Opening → List Opening → List Opening
-with_answered o openings =
-    if opens_with o.isn (find (is_opening_from o.source o.destination) openings)
+-- the openings without those from one socket to another (own)
+abbrev pub without_opening : (source destination : Socket) → List Opening → List Opening
+without_opening a b openings = filter (λ o. not (is_opening_from a b o)) openings
+
+-- the openings behind an answer: the one the other way stays where it is the SYN that the answer
+-- acknowledges, and an older one goes (RFC 9293, section 3.5, and own)
+abbrev pub answered_by : Segment → List Opening → List Opening
+answered_by d openings =
+    if opens_with (acknowledged_isn d) (find (is_opening_from d.destination d.source) openings)
     then openings
-    else with_opening o openings
+    else without_opening d.destination d.source openings
 
 -- the openings after a segment of which this is said: a SYN opens, and a SYN with ACK tells which
--- SYN it answers, in the place of an older one (RFC 9293, section 3.5, and own)
+-- SYN it answers (RFC 9293, section 3.5, and own)
 abbrev pub openings_after : Segment → Saying → List Opening → List Opening
 openings_after d said openings =
     if not (is_judged said && has SYN d) then openings
-    else if has ACK d then with_answered (opening_answered d) openings
+    else if has ACK d then answered_by d openings
     else with_opening (opening_of d said) openings
 
 -- an opening was verified, and has another number than this one (own)
@@ -98,7 +93,7 @@ is_outdated onward back (Some c) = opens_anew c.one.isn onward || opens_anew c.t
 -- behind the connection that is held between the sockets of a segment that isn't a SYN, a verified
 -- SYN began another one (RFC 9293, section 3.5, and own)
 abbrev pub is_opened_anew : Segment → List Connection → List Opening → Bool
-is_opened_anew d held openings = not (has SYN d)
+is_opened_anew d held openings = (not (has SYN d) && not (same_socket d.source d.destination))
     && is_outdated (find (is_opening_from d.source d.destination) openings)
     (find (is_opening_from d.destination d.source) openings) (connection_between d held)
 

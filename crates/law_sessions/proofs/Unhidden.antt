@@ -251,7 +251,7 @@ outdated_held onward back None e = absurd (cc)
 outdated_held onward back (Some k) e = (k, refl)
 
 none_anew : (d : Segment) (held : List Connection) (openings : List Opening) → connection_between d held ≡ None → is_opened_anew d held openings ≡ false
-none_anew d held openings e = rw e (and_false (not (has SYN d)))
+none_anew d held openings e = rw e (and_false (not (has SYN d) && not (same_socket d.source d.destination)))
 
 still_open : (d : Segment) (w : Saying) (openings : List Opening) → has SYN d ≡ false → openings_after d w openings ≡ openings
 still_open d w openings syn = rw (syn, and_false (is_judged w)) refl
@@ -319,8 +319,9 @@ hides_nothing j l others now d is =
     let c = connection_between d l.held in
     let onward = find (is_opening_from d.source d.destination) l.openings in
     let back = find (is_opening_from d.destination d.source) l.openings in
-    let both = and_tells (not (has SYN d)) (is_outdated onward back c) is.opened in
-    let syn = not_is (has SYN d) both.0 in
+    let other = not (same_socket d.source d.destination) in
+    let both = and_tells (not (has SYN d) && other) (is_outdated onward back c) is.opened in
+    let syn = not_is (has SYN d) (and_tells (not (has SYN d)) other both.0).0 in
     let held = outdated_held onward back c both.1 in
     anew_told j l others now d (is_opened_anew d l.held l.openings) (is_opened_anew d others l.openings) refl refl is.opened (none_anew d others l.openings is.unheld) syn
     (laps_fit j l.held others now d held.0 syn held.1 is.unheld)
