@@ -1,9 +1,9 @@
 -- Datagrams that a capture has only the beginning of (own). Its top is `cut_segment`.
-use Rattle.std.specs.Prelude.{ℕ, ◌+◌, ◌-◌, ◌/◌, ◌==◌, nat_le, Bool, true, false, List, ◌++◌, length}
-use Rattle.std.specs.Prelude.{replicate, slice_index, Option, Some, None, if◌then◌else◌}
+use Rattle.std.specs.Prelude.{ℕ, ◌+◌, ◌-◌, ◌/◌, ◌==◌, nat_le, ◌&&◌, Bool, true, false, List, ◌++◌}
+use Rattle.std.specs.Prelude.{length, replicate, slice_index, Option, Some, None, if◌then◌else◌}
 use Rattle.book_segments.specs.declared.fault.DatagramFault.TheVariants.{Truncated}
 use Rattle.book_segments.specs.Segments.{Segment, Reading, Read, Bad, reading, two_octets_at}
-use Rattle.book_segments.specs.Segments.{ipv6_header_length}
+use Rattle.book_segments.specs.Segments.{ipv4_header_length, ipv6_header_length}
 use Rattle.book_sessions.specs.AsSent.{mended}
 
 -- how many bytes a datagram has, as its IP header says (RFC 791, section 3.1; RFC 8200, section 3)
@@ -30,8 +30,12 @@ abbrev pub filled_segment : (missing : ℕ) → Reading → Option Segment
 filled_segment n (Bad fault) = None
 filled_segment n (Read d) = if nat_le n (length d.payload) then Some d else None
 
+-- bytes are read as the beginning of a datagram, with its first 20 bytes (RFC 791, section 3.1)
+abbrev pub is_beginning : List ℕ → Bool
+is_beginning b = is_truncated (reading b) && nat_le ipv4_header_length (length b)
+
 -- the segment that was cut off within its payload, so that its IP header, its TCP header and its
 -- options are there (own)
 unfoldable pub cut_segment : List ℕ → Option Segment
-cut_segment b = if is_truncated (reading b)
+cut_segment b = if is_beginning b
     then filled_segment (missing b) (reading (mended (filled b))) else None

@@ -11,17 +11,17 @@ use Rattle.book_sessions.specs.declared.outcome.PassedOver.{PassedOver}
 use Rattle.book_sessions.specs.declared.uses.KeyUse.{KeyUse}
 use Rattle.book_sessions.specs.declared.uses.SeenSegment.{SeenSegment}
 use Rattle.book_sessions.specs.AsSent.{is_segment, is_unset_segment, lacks_checksum, mended, told_fault}
+use Rattle.book_sessions.specs.CutOff.{cut_segment}
 use Rattle.book_sessions.specs.Laps.{Judging}
 use Rattle.capture_listener.specs.declared.outcomes.HeardSegment.{HeardSegment}
 use Rattle.book_sessions.specs.Listening.{Listened, Listening, listen}
-use Rattle.book_sessions.specs.Sessions.{SessionTable, and_counted, seen_by, seen_segment, captured_by, captured_of_packet, with_unset}
+use Rattle.book_sessions.specs.Sessions.{SessionTable, and_counted, seen_by, seen_cut, seen_segment, captured_by, captured_of_packet, with_unset}
 use Rattle.book_sessions.specs.KeyLines.{last_of, later_of}
 use Rattle.capture_listener.specs.Listeners.{Hearing, Knows, Listens}
 use Rattle.capture_reader.specs.declared.frames.FoundDatagram.{FoundDatagram}
 use Rattle.capture_reader.specs.Found.{Gives, seen}
 use Rattle.scope_lines.specs.Writes.{found_in}
 use Rattle.book_segments.specs.declared.fault.DatagramFault.{DatagramFault}
-use Rattle.book_sessions.specs.declared.outcome.PassedOver.TheVariants as passed
 use Rattle.scope_sessions.specs.Counting.{CountsJudged, CountsPacket, CountsStored, IsHeard, IsSeen, stored_at}
 
 -- a packet that is passed over
@@ -86,11 +86,16 @@ last_more chosen uses left u last low here is =
     let cut : drop left uses ≡ u ∷ drop (left + 1) uses = rw (add-one left) (drop-cons uses left u low ∙ ap (λ x. x ∷ drop (suc left) uses) (sym here)) in
     rw (cut, is) refl
 
--- what is heard of bytes that are no datagram
-pub heard_bad : (j : Judging) (k : Listening) (after : Hearing) (s : Stored) (bytes : Reading) (fault told : DatagramFault) → bytes ≡ Bad fault → told ≡ told_fault s.bytes fault → Knows after k
-    → IsHeard s bytes (Err (passed.Faulty told)) after (listen j k s.time bytes)
+-- what is heard of bytes that are no datagram, unless memory ran out
+pub heard_bad : {E : Type 0} (result : Result (Result SeenSegment PassedOver) E) (j : Judging) (k : Listening) (after : Hearing) (s : Stored) (bytes : Reading) (fault : DatagramFault) → bytes ≡ Bad fault → IfOk result (λ seen. seen ≡ seen_cut s (cut_segment s.bytes) fault) → Knows after k
+    → IfOk result (λ seen. IsHeard s bytes seen after (listen j k s.time bytes))
 unfolding listen
-heard_bad j k after s bytes fault told is also knows = rw (is, also) (record { seen = refl; knows = knows })
+heard_bad (Ok seen) j k after s bytes fault is found knows = rw is (record { seen = found; knows = knows })
+heard_bad (Err e) j k after s bytes fault is found knows = tt
+
+-- the bytes of a segment that was cut off are read
+pub whole_read : (whole : List ℕ) (d : Segment) (fault : DatagramFault) → reading whole ≡ Read d → reading whole ≡ Bad fault → true ≡ false
+whole_read whole d fault e f = absurd (cc)
 
 -- bytes that were stored, unless memory ran out
 pub stored_on : {E : Type 0} (result : Result (Unit {0}) E) (j : Judging) (k : Listening) (after : Hearing) (before now : SessionTable) (s : Stored) (seen : Result SeenSegment PassedOver)
