@@ -1,5 +1,5 @@
 //! Datagrams that a capture has only the beginning of.
-ghost use Rattle.std.specs.Prelude.{◌≡◌, ◌≤◌, IfOk, is_some, length};
+ghost use Rattle.std.specs.Prelude.{◌≡◌, ◌≤◌, IfOk, is_some, length, true};
 ghost use Rattle.book_segments.specs.Segments.{reading};
 ghost use Rattle.book_sessions.specs.AsSent.{mended};
 ghost use Rattle.book_sessions.specs.CutOff.{filled, filled_segment, is_beginning, is_truncated, length_told, missing};
