@@ -217,6 +217,12 @@ pub fault_of : (r : Reading) → is_segment r ≡ false → (fault : DatagramFau
 fault_of (Bad fault) e = (fault, refl)
 fault_of (Read d) e = absurd (cc)
 
+pub one_read : (one other : Segment) → ◌≡◌ {A = Reading} (Read one) (Read other) → one ≡ other
+one_read one other e = cc
+
+pub rung_is : (s : Stored) (packet time : ℕ) (one other : Segment) (r : SessionRung) → s.number ≡ packet → one ≡ other → r ≡ session_rung packet time one CutOff None → r ≡ session_rung s.number time other CutOff None
+rung_is s packet time one other r number same is = rw (number, ← same) is
+
 -- a segment that was cut off, unless memory ran out for what is drawn of it
 pub cut_told : {E : Type 0} (result : Result (Unit {0}) E) (q : Request) (before now : Drawer) (rungs : List SessionRung) (k : Listening) → Follows q before rungs k
     → (s : Stored) (time : ℕ) (fault : DatagramFault) (d : Segment) (r : SessionRung) (shown : Shown) → reading s.bytes ≡ Bad fault → cut_segment s.bytes ≡ Some d → before.text.items ≡ []

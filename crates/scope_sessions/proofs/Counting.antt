@@ -8,6 +8,8 @@ use Rattle.book_captures.specs.Captures.{CapturePacket, frame_datagram}
 use Rattle.book_cmd_check.specs.Captures.{Stored}
 use Rattle.book_segments.specs.Segments.{Bad, Read, Reading, Segment, reading}
 use Rattle.book_sessions.specs.declared.outcome.PassedOver.{PassedOver}
+use Rattle.book_sessions.specs.declared.outcome.PassedOver.TheVariants as passed
+use Rattle.book_sessions.specs.declared.outcome.SegmentOutcome.TheVariants.{CutOff}
 use Rattle.book_sessions.specs.declared.uses.KeyUse.{KeyUse}
 use Rattle.book_sessions.specs.declared.uses.SeenSegment.{SeenSegment}
 use Rattle.book_sessions.specs.AsSent.{is_segment, is_unset_segment, lacks_checksum, mended, told_fault}
@@ -93,9 +95,28 @@ unfolding listen
 heard_bad (Ok seen) j k after s bytes fault is found knows = rw is (record { seen = found; knows = knows })
 heard_bad (Err e) j k after s bytes fault is found knows = tt
 
--- the bytes of a segment that was cut off are read
-pub whole_read : (whole : List ℕ) (d : Segment) (fault : DatagramFault) → reading whole ≡ Read d → reading whole ≡ Bad fault → true ≡ false
-whole_read whole d fault e f = absurd (cc)
+-- ---- a segment that was cut off
+
+pub one_read : (one other : Segment) → ◌≡◌ {A = Reading} (Read one) (Read other) → one ≡ other
+one_read one other e = cc
+
+abbrev ok_seen : SeenSegment → Result SeenSegment DatagramFault
+ok_seen s = Ok s
+
+pub seen_off : (s : Stored) (one other : Segment) (seen : SeenSegment) → one ≡ other → seen ≡ seen_segment s one CutOff None → ok_seen seen ≡ ok_seen (seen_segment s other CutOff None)
+seen_off s one other seen same is = rw (is, same) refl
+
+abbrev said : SeenSegment → Result SeenSegment PassedOver
+said s = Ok s
+
+pub off_seen : (s : Stored) (d : Segment) (bytes : List ℕ) (fault : DatagramFault) (seen : SeenSegment) → cut_segment bytes ≡ Some d → ok_seen seen ≡ ok_seen (seen_segment s d CutOff None) → said seen ≡ seen_cut s (cut_segment bytes) fault
+off_seen s d bytes fault seen cut is = let same : seen ≡ seen_segment s d CutOff None = cc in rw (cut, same) refl
+
+abbrev faulty : DatagramFault → Result SeenSegment PassedOver
+faulty fault = Err (passed.Faulty fault)
+
+pub none_cut : (s : Stored) (bytes : List ℕ) (fault told : DatagramFault) → s.bytes ≡ bytes → cut_segment bytes ≡ None → told ≡ told_fault bytes fault → faulty told ≡ seen_cut s (cut_segment bytes) fault
+none_cut s bytes fault told same none is = rw (none, is, same) refl
 
 -- bytes that were stored, unless memory ran out
 pub stored_on : {E : Type 0} (result : Result (Unit {0}) E) (j : Judging) (k : Listening) (after : Hearing) (before now : SessionTable) (s : Stored) (seen : Result SeenSegment PassedOver)
