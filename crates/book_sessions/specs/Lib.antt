@@ -1,6 +1,5 @@
 pub mod AsSent
 pub mod Counts
-pub mod CutOff
 pub mod GivenLines
 pub mod Glimpses
 pub mod KeyLines

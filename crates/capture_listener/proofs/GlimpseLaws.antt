@@ -1,6 +1,6 @@
 -- What a segment tells of initial sequence numbers.
-use Rattle.std.proofs.Common.{◌≡◌, ℕ, ◌&&◌, Bool, true, false, List, Option, Some, None, refl, ap}
-use Rattle.std.specs.Prelude.{option_map}
+use Rattle.std.proofs.Common.{◌≡◌, ℕ, ◌&&◌, Bool, true, false, List, Option, Some, None, refl, sym, ap, ◌∙◌}
+use Rattle.std.specs.Prelude.{◌==◌, option_map}
 use Rattle.std.specs.List.{find}
 use Rattle.book_segments.specs.Segments.{Segment, has, SYN, ACK}
 use Rattle.book_segments.proofs.Fields.{some_is}
@@ -10,6 +10,7 @@ use Rattle.capture_listener.specs.Begun.{and_begun, completing}
 use Rattle.capture_check.specs.Expecting.{numbers_of}
 use Rattle.capture_listener.specs.declared.openings.KeptOpening.{KeptOpening}
 use Rattle.capture_listener.specs.Openings.{kept_anew, kept_of, kept_outdated, kept_with, opened_between}
+use Rattle.capture_listener.proofs.OpeningLaws.{none_taken}
 
 -- the first ACK behind an opening
 pub completes : (d : Segment) (s : Saying) (os : List Opening) (guessed : List Connection) (kept : KeptOpening) → has ACK d ≡ true → has SYN d ≡ false → is_unknown s ≡ true
@@ -50,6 +51,23 @@ answered_same d os e = rw e refl
 
 pub answered_other : (d : Segment) (os : List Opening) → opens_with (acknowledged_isn d) (find (is_opening_from d.destination d.source) os) ≡ false → answered_by d os ≡ without_opening d.destination d.source os
 answered_other d os e = rw e refl
+
+none_opened : (o : Option Opening) → option_map kept_of o ≡ None → o ≡ None
+none_opened None e = refl
+none_opened (Some o) e = absurd (cc)
+
+pub answered_none : (d : Segment) (os : List Opening) → opened_between d.destination d.source os ≡ None → answered_by d os ≡ os
+answered_none d os e =
+    let none = none_opened (find (is_opening_from d.destination d.source) os) e in
+    answered_other d os (ap (opens_with (acknowledged_isn d)) none) ∙ none_taken d.destination d.source os none
+
+pub answers_other : (d : Segment) (os : List Opening) (kept : KeptOpening) → opened_between d.destination d.source os ≡ Some kept → (kept.isn == acknowledged_isn d) ≡ false → answered_by d os ≡ without_opening d.destination d.source os
+answers_other d os kept e other =
+    answered_other d os (sym (kept_as_opened (acknowledged_isn d) (find (is_opening_from d.destination d.source) os)) ∙ (ap (kept_with (acknowledged_isn d)) e ∙ other))
+
+pub answers_same : (d : Segment) (os : List Opening) (kept : KeptOpening) → opened_between d.destination d.source os ≡ Some kept → (kept.isn == acknowledged_isn d) ≡ true → answered_by d os ≡ os
+answers_same d os kept e same =
+    answered_same d os (sym (kept_as_opened (acknowledged_isn d) (find (is_opening_from d.destination d.source) os)) ∙ (ap (kept_with (acknowledged_isn d)) e ∙ same))
 
 -- ---- whether the sockets were opened anew
 

@@ -1,4 +1,3 @@
-pub mod CutLaws
 pub mod GlimpseLaws
 pub mod HeldLaws
 pub mod LapLaws

@@ -162,16 +162,16 @@ pass_told (line.Full checksum) s e = rw e refl
 
 -- a verdict says anew what its judgement does
 verdict_told : (v : Verdict) (checksum : Checksum) (j : Judgement) → IsJudged v j → Says (line.Verdict (verdict_anew v) checksum) (told_anew true (Judged j checksum))
-verdict_told (Pass p) checksum j (entry, is, F) = (Ok entry, (rw is refl, (entry, (refl, F))))
-verdict_told NoAo checksum j e = (Err NoAo, (rw e refl, refl))
-verdict_told TwoAo checksum j e = (Err TwoAo, (rw e refl, refl))
-verdict_told WithMd5 checksum j e = (Err WithMd5, (rw e refl, refl))
-verdict_told NoTuple checksum j e = (Err NoTuple, (rw e refl, refl))
-verdict_told Expired checksum j e = (Err Expired, (rw e refl, refl))
-verdict_told MacLength checksum j e = (Err MacLength, (rw e refl, refl))
-verdict_told NoContext checksum j e = (Err NoContext, (rw e refl, refl))
-verdict_told Range checksum j e = (Err NoContext, (rw e refl, refl))
-verdict_told BadMac checksum j e = (Err NoContext, (rw e refl, refl))
+verdict_told (Pass p) checksum j (entry, is, F) = (Ok entry, rw is refl, (entry, refl, F))
+verdict_told NoAo checksum j e = (Err NoAo, rw e refl, refl)
+verdict_told TwoAo checksum j e = (Err TwoAo, rw e refl, refl)
+verdict_told WithMd5 checksum j e = (Err WithMd5, rw e refl, refl)
+verdict_told NoTuple checksum j e = (Err NoTuple, rw e refl, refl)
+verdict_told Expired checksum j e = (Err Expired, rw e refl, refl)
+verdict_told MacLength checksum j e = (Err MacLength, rw e refl, refl)
+verdict_told NoContext checksum j e = (Err NoContext, rw e refl, refl)
+verdict_told Range checksum j e = (Err NoContext, rw e refl, refl)
+verdict_told BadMac checksum j e = (Err NoContext, rw e refl, refl)
 
 line_told : (anew : Bool) (l : CheckLine) (s : Saying) → Says l s → Says (line_anew anew l) (told_anew anew s)
 line_told false l s e = e

@@ -76,25 +76,42 @@ keeps_put before after os o K P = record { same = λ a b. at a b (is_opening_fro
         P.finds (way_between a b) ∙ (ap (λ (v : Bool). cond v (Some (kept_of o)) (kept_opening before (way_between a b))) apart ∙ (K.same a b ∙ sym (ap (option_map kept_of) found)))
 
 -- nothing that was taken out is found
+drop_none : (test : Opening → Bool) (o : Opening) (rest : List Opening) → find test rest ≡ None → find test (cond (not (test o)) (o ∷ rest) rest) ≡ None
+drop_none test o rest is = at (test o) refl
+  where
+    at : (v : Bool) → test o ≡ v → find test (cond (not v) (o ∷ rest) rest) ≡ None
+    at true e = is
+    at false e = rw e is
+
 none_left : (a b : Socket) (os : List Opening) → find (is_opening_from a b) (without_opening a b os) ≡ None
 none_left a b [] = refl
-none_left a b (o ∷ os) = at (is_opening_from a b o) refl
-  where
-    at : (v : Bool) → is_opening_from a b o ≡ v → find (is_opening_from a b) (cond (not v) (o ∷ without_opening a b os) (without_opening a b os)) ≡ None
-    at true e = none_left a b os
-    at false e = rw e (none_left a b os)
+none_left a b (o ∷ os) = drop_none (is_opening_from a b) o (without_opening a b os) (none_left a b os)
 
 -- an opening that goes another way is found as before
+drop_other : (gone test : Opening → Bool) (o : Opening) (rest os : List Opening) → (test o ≡ true → gone o ≡ false) → find test rest ≡ find test os → find test (cond (not (gone o)) (o ∷ rest) rest) ≡ cond (test o) (Some o) (find test os)
+drop_other gone test o rest os other is = at (gone o) (test o) refl refl
+  where
+    at : (u v : Bool) → gone o ≡ u → test o ≡ v → find test (cond (not u) (o ∷ rest) rest) ≡ cond v (Some o) (find test os)
+    at true true e f = let no = other f in absurd (cc)
+    at true false e f = is
+    at false true e f = rw f refl
+    at false false e f = rw f is
+
 others_left : (a b c d : Socket) (os : List Opening) → ((o : Opening) → is_opening_from c d o ≡ true → is_opening_from a b o ≡ false) → find (is_opening_from c d) (without_opening a b os) ≡ find (is_opening_from c d) os
 others_left a b c d [] other = refl
-others_left a b c d (o ∷ os) other = at (is_opening_from a b o) (is_opening_from c d o) refl refl
+others_left a b c d (o ∷ os) other = drop_other (is_opening_from a b) (is_opening_from c d) o (without_opening a b os) os (other o) (others_left a b c d os other)
+
+-- where there is none to take out, all stay
+keep_all : (test : Opening → Bool) (o : Opening) (rest os : List Opening) → cond (test o) (Some o) (find test os) ≡ None → (find test os ≡ None → rest ≡ os) → cond (not (test o)) (o ∷ rest) rest ≡ o ∷ os
+keep_all test o rest os none is = at (test o) none
   where
-    at : (u v : Bool) → is_opening_from a b o ≡ u → is_opening_from c d o ≡ v
-        → find (is_opening_from c d) (cond (not u) (o ∷ without_opening a b os) (without_opening a b os)) ≡ cond v (Some o) (find (is_opening_from c d) os)
-    at true true e f = let no = other o f in absurd (cc)
-    at true false e f = others_left a b c d os other
-    at false true e f = rw f refl
-    at false false e f = rw f (others_left a b c d os other)
+    at : (v : Bool) → cond v (Some o) (find test os) ≡ None → cond (not v) (o ∷ rest) rest ≡ o ∷ os
+    at true e = absurd (cc)
+    at false e = ap (λ (x : List Opening). o ∷ x) (is e)
+
+pub none_taken : (a b : Socket) (os : List Opening) → find (is_opening_from a b) os ≡ None → without_opening a b os ≡ os
+none_taken a b [] e = refl
+none_taken a b (o ∷ os) e = keep_all (is_opening_from a b) o (without_opening a b os) os e (none_taken a b os)
 
 -- an opening that isn't kept any more is none of the others
 pub keeps_dropped : (before after : List (Pair × KeptOpening)) (os : List Opening) (a b : Socket) → KeepsOpenings before os → PutsOpening before after (way_between a b) None → KeepsOpenings after (without_opening a b os)

@@ -1,6 +1,5 @@
 pub mod AsSent
 pub mod Begun
-pub mod CutOff
 pub mod Lines
 pub mod Listeners
 pub mod Openings

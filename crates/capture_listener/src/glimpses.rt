@@ -1,7 +1,7 @@
 //! What a segment tells of initial sequence numbers where no handshake passed.
 ghost use Rattle.std.specs.Prelude.{◌≡◌, false, true, List, OnErr, OnOk};
 ghost use Rattle.book_segments.specs.Segments.{has, ACK, SYN};
-ghost use Rattle.book_cmd_check.specs.Captures.{Connection, Saying};
+ghost use Rattle.book_cmd_check.specs.Captures.{Connection, Saying, acknowledged_isn};
 ghost use Rattle.book_cmd_check.specs.Handshakes.{and_given};
 ghost use Rattle.book_sessions.specs.Glimpses.{Opening, answered_by, glimpsed, openings_after};
 ghost use Rattle.capture_check.specs.Answers.{Says};
@@ -104,11 +104,18 @@ pub(crate) fn glimpse(
     }
 }
 
+// The initial sequence number that a SYN with ACK acknowledges.
+fn acknowledged_isn(datagram: &Datagram<'_>) -> u32
+    ensures { result ≡ acknowledged_isn datagram.now }
+{
+    datagram.acknowledgement().wrapping_sub(1)
+}
+
 /// Keeps no opening but the one that an answer acknowledges.
 fn note_answer(openings: &mut Openings, datagram: &Datagram<'_>)
     ensures { (opened : List Opening) → KeepsOpenings openings.old.isns.entries opened → KeepsOpenings openings.new.isns.entries (answered_by datagram.now opened) }
 {
-    let isn = datagram.acknowledgement().wrapping_sub(1);
+    let isn = acknowledged_isn(datagram);
     match openings.get(datagram.destination(), datagram.source()) {
         None => {}
         Some(opening) => {
