@@ -1,24 +1,28 @@
 -- A table of sessions counts each outcome, each direction and each packet once.
-use Rattle.std.proofs.Common.{◌≡◌, ℕ, ◌+◌, Bool, true, false, List, [], ◌∷◌, length, map, Option, Some, None, Result, Ok, Err, if◌then◌else◌, refl, sym, ap, ◌∙◌, arith}
+use Rattle.std.proofs.Common.{◌≡◌, ℕ, ◌+◌, Bool, true, false, List, [], ◌∷◌, length, map, Option, Some, None, Result, Ok, Err, IfOk, if◌then◌else◌, refl, sym, ap, ◌∙◌, is_some, arith}
 use Rattle.book_segments.specs.declared.fault.DatagramFault.{DatagramFault}
 use Rattle.book_segments.specs.Segments.{Segment, Reading, Read, Bad, reading}
 use Rattle.book_keys.specs.Rows.{Table}
-use Rattle.book_cmd_check.specs.Captures.{Stored, Connection, hear, hear_read, sayings_from}
+use Rattle.book_cmd_check.specs.Captures.{Stored, Connection, Heard, Saying, Unreadable, UnknownNode, Judged, TooManyConnections, hear, hear_read, sayings_from}
+use Rattle.book_endpoint.specs.declared.verdict.Verdict.{Verdict}
+use Rattle.book_endpoint.specs.declared.verdict.Verdict.TheVariants.{Pass, NoAo, TwoAo, WithMd5, NoTuple, Expired, MacLength, NoContext, Range, BadMac}
 use Rattle.book_cmd_check.specs.declared.given.GivenIsns.{GivenIsns}
 use Rattle.book_cmd_check.specs.Handshakes.{given_after}
 use Rattle.book_captures.specs.Captures.{CapturePacket}
 use Rattle.book_sessions.specs.declared.outcome.SegmentOutcome.{SegmentOutcome}
+use Rattle.book_sessions.specs.declared.outcome.SegmentOutcome.TheVariants as outcome
 use Rattle.book_sessions.specs.declared.outcome.PassedOver.{PassedOver}
 use Rattle.book_sessions.specs.declared.uses.SeenSegment.{SeenSegment}
 use Rattle.book_sessions.specs.declared.uses.Signs.{Signs}
 use Rattle.book_sessions.specs.declared.uses.KeyUse.{KeyUse}
 use Rattle.book_sessions.specs.declared.uses.PassedCount.{PassedCount}
-use Rattle.book_sessions.specs.Laps.{Judging}
-use Rattle.book_sessions.specs.Listening.{Listened, Listening, heard_once, outcome_of, listen, listening_behind}
+use Rattle.book_sessions.specs.Glimpses.{Opening, glimpsed, is_opened_anew, is_unknown, openings_after, told_anew}
+use Rattle.book_sessions.specs.Laps.{Judging, hear_over}
+use Rattle.book_sessions.specs.Listening.{Listened, Listening, outcome_of, unconfirmed_of, listen, listening_behind, said_of}
 use Rattle.book_sessions.specs.Sessions.{SessionTable, same_reason, seen_as, seen_by, same_outcome, is_use_of, session_of, used_again, with_use, signs_of, and_segment, with_passed, and_counted, and_unset, captured_of_packet, stored_of_packet, all_stored, counted_by, sessions_from, no_sessions, sessions_of}
-use Rattle.book_sessions.specs.Counts.{if_outcome, counted, said_once, said_times, outcome_times, like_times, like_counted, is_like, use_as_checked, all_counted, all_passed, seen_before, segments_seen, segments_heard}
+use Rattle.book_sessions.specs.Counts.{IsNoRefusal, IsVerified, IsOfNoNode, IsTooMany, as_checked, checked_by, told_times, if_outcome, counted, said_once, said_times, outcome_times, like_times, like_counted, is_like, use_as_checked, all_counted, all_passed, seen_before, segments_seen, segments_heard}
 use Rattle.book_sessions.proofs.Sums.{sum_of_uses, sum_of_segments, kinds_counted}
-use Rattle.book_sessions.proofs.Hearing.{without_laps, seen_as_checked, heard_as_checked}
+use Rattle.book_sessions.proofs.Hearing.{without_laps, seen_as_checked, heard_as_checked, listened}
 use Rattle.book_sessions.proofs.Directions.{outcome_kind, checked_kind, way_kind, checked_way_kind}
 
 zero_first : (n : ℕ) → 0 + n ≡ n
@@ -67,7 +71,7 @@ ways_counted j given packets k =
 -- ---- what `check` says, where no laps are searched
 
 pub directions_counted : (tables : List Table) (given : List GivenIsns) (packets : List CapturePacket) (k : SeenSegment) →
-    like_counted k (map use_as_checked (sessions_of (without_laps tables) given packets).uses) ≡ like_times k (segments_seen tables (given_after [] given) (all_stored packets))
+    like_counted k (map use_as_checked (sessions_of (without_laps tables) given packets).uses) ≡ like_times k (segments_seen tables (given_after [] given) [] (all_stored packets))
 directions_counted tables given packets k =
     let us = (sessions_of (without_laps tables) given packets).uses in
     let ss = segments_heard (without_laps tables) (listening_behind given) (all_stored packets) in
@@ -79,7 +83,7 @@ directions_counted tables given packets k =
     ∙ ap (like_times k) (heard_as_checked tables (listening_behind given) (all_stored packets))))))
 
 outcomes_checked : (tables : List Table) (given : List GivenIsns) (packets : List CapturePacket) (o : SegmentOutcome) →
-    counted o (map use_as_checked (sessions_of (without_laps tables) given packets).uses) ≡ outcome_times o (segments_seen tables (given_after [] given) (all_stored packets))
+    counted o (map use_as_checked (sessions_of (without_laps tables) given packets).uses) ≡ outcome_times o (segments_seen tables (given_after [] given) [] (all_stored packets))
 outcomes_checked tables given packets o =
     let us = (sessions_of (without_laps tables) given packets).uses in
     let ss = segments_heard (without_laps tables) (listening_behind given) (all_stored packets) in
@@ -90,30 +94,134 @@ outcomes_checked tables given packets o =
     ∙ (sym (times_sum o (map seen_as_checked ss))
     ∙ ap (outcome_times o) (heard_as_checked tables (listening_behind given) (all_stored packets))))))
 
-said_by : (o : SegmentOutcome) (s : Stored) (l : Listened) (d : Segment) (said : Result SegmentOutcome DatagramFault) (ss : List SeenSegment) →
-    outcome_times o (seen_before (seen_as s l (Read d) said) ss) ≡ said_once o said + outcome_times o ss
-said_by o s l d (Ok said) ss = refl
-said_by o s l d (Err fault) ss = sym (zero_first (outcome_times o ss))
+said_by : (o : SegmentOutcome) (s : Stored) (l : Listened) (d : Segment) (said : SegmentOutcome) (ss : List SeenSegment) →
+    outcome_times o (seen_before (seen_as s l (Read d) (Ok said)) ss) ≡ said_once o (Ok said) + outcome_times o ss
+said_by o s l d said ss = refl
 
 -- what is said of bytes that are no segment is no outcome
-said_of : (o : SegmentOutcome) (tables : List Table) (held : List Connection) (s : Stored) (r : Reading) (ss : List SeenSegment) →
-    outcome_times o (seen_before (seen_by s r (heard_once (hear_read tables held s.time r) [] [])) ss)
-    ≡ said_once o (outcome_of (hear_read tables held s.time r).saying) + outcome_times o ss
-said_of o tables held s (Bad fault) ss = sym (zero_first (outcome_times o ss))
-said_of o tables held s (Read d) ss =
-    let h = hear_read tables held s.time (Read d) in said_by o s (heard_once h [] []) d (outcome_of h.saying) ss
+said_at : (o : SegmentOutcome) (s : Stored) (l : Listened) (r : Reading) (said : Result SegmentOutcome DatagramFault) (ss : List SeenSegment) →
+    ((fault : DatagramFault) → r ≡ Bad fault → (p : SegmentOutcome) → said ≡ Ok p → true ≡ false) → outcome_times o (seen_before (seen_as s l r said) ss) ≡ said_once o said + outcome_times o ss
+said_at o s l r (Err fault) ss never = sym (zero_first (outcome_times o ss))
+said_at o s l (Read d) (Ok said) ss never = said_by o s l d said ss
+said_at o s l (Bad fault) (Ok said) ss never = let impossible = never fault refl said refl in absurd (cc)
 
-sayings_counted : (o : SegmentOutcome) (tables : List Table) (held : List Connection) (stored : List Stored) → outcome_times o (segments_seen tables held stored) ≡ said_times o (sayings_from tables held stored)
-unfolding hear
-sayings_counted o tables held [] = refl
-sayings_counted o tables held (s ∷ rest) =
-    let h = hear_read tables held s.time (reading s.bytes) in
-    said_of o tables held s (reading s.bytes) (segments_seen tables h.connections rest)
-    ∙ ap (λ (n : ℕ). said_once o (outcome_of h.saying) + n) (sayings_counted o tables h.connections rest)
+-- bytes that are no segment have no outcome
+bad_unsaid : (tables : List Table) (held : List Connection) (openings : List Opening) (now : ℕ) (r : Reading) (fault : DatagramFault) → r ≡ Bad fault → (p : SegmentOutcome) → (checked_by tables held openings now r).outcome ≡ Ok p → true ≡ false
+bad_unsaid tables held openings now (Bad other) fault e p f = absurd (cc)
+bad_unsaid tables held openings now (Read d) fault e p f = absurd (cc)
+
+sayings_counted : (o : SegmentOutcome) (tables : List Table) (held : List Connection) (openings : List Opening) (stored : List Stored) →
+    outcome_times o (segments_seen tables held openings stored) ≡ told_times o tables held openings stored
+sayings_counted o tables held openings [] = refl
+sayings_counted o tables held openings (s ∷ rest) =
+    let r = reading s.bytes in
+    let h = checked_by tables held openings s.time r in
+    said_at o s h r h.outcome (segments_seen tables h.listening.held h.listening.openings rest) (λ fault is p told. bad_unsaid tables held openings s.time r fault is p told)
+    ∙ ap (λ (n : ℕ). said_once o h.outcome + n) (sayings_counted o tables h.listening.held h.listening.openings rest)
 
 pub verdicts_counted : (tables : List Table) (given : List GivenIsns) (packets : List CapturePacket) (o : SegmentOutcome) →
-    counted o (map use_as_checked (sessions_of (without_laps tables) given packets).uses) ≡ said_times o (sayings_from tables (given_after [] given) (all_stored packets))
-verdicts_counted tables given packets o = outcomes_checked tables given packets o ∙ sayings_counted o tables (given_after [] given) (all_stored packets)
+    counted o (map use_as_checked (sessions_of (without_laps tables) given packets).uses) ≡ told_times o tables (given_after [] given) [] (all_stored packets)
+verdicts_counted tables given packets o = outcomes_checked tables given packets o ∙ sayings_counted o tables (given_after [] given) [] (all_stored packets)
+
+-- ---- what isn't refused
+
+-- what is told of a refusal is a refusal
+verified_kept : (x : SegmentOutcome) → same_outcome outcome.Verified (as_checked x) ≡ same_outcome outcome.Verified x
+verified_kept outcome.Verified = refl
+verified_kept (outcome.Refused why) = refl
+verified_kept outcome.NoNode = refl
+verified_kept outcome.TooMany = refl
+verified_kept outcome.Unconfirmed = refl
+verified_kept (outcome.UnconfirmedRefused why) = refl
+
+no_node_kept : (x : SegmentOutcome) → same_outcome outcome.NoNode (as_checked x) ≡ same_outcome outcome.NoNode x
+no_node_kept outcome.Verified = refl
+no_node_kept (outcome.Refused why) = refl
+no_node_kept outcome.NoNode = refl
+no_node_kept outcome.TooMany = refl
+no_node_kept outcome.Unconfirmed = refl
+no_node_kept (outcome.UnconfirmedRefused why) = refl
+
+too_many_kept : (x : SegmentOutcome) → same_outcome outcome.TooMany (as_checked x) ≡ same_outcome outcome.TooMany x
+too_many_kept outcome.Verified = refl
+too_many_kept (outcome.Refused why) = refl
+too_many_kept outcome.NoNode = refl
+too_many_kept outcome.TooMany = refl
+too_many_kept outcome.Unconfirmed = refl
+too_many_kept (outcome.UnconfirmedRefused why) = refl
+
+kept : (o : SegmentOutcome) → IsNoRefusal o → (x : SegmentOutcome) → same_outcome o (as_checked x) ≡ same_outcome o x
+kept o (IsVerified e) x = rw e (verified_kept x)
+kept o (IsOfNoNode e) x = rw e (no_node_kept x)
+kept o (IsTooMany e) x = rw e (too_many_kept x)
+
+counted_kept : (o : SegmentOutcome) → IsNoRefusal o → (us : List KeyUse) → counted o (map use_as_checked us) ≡ counted o us
+counted_kept o e [] = refl
+counted_kept o e (u ∷ us) =
+    ap (λ (b : Bool). (if b then u.segments else 0) + counted o (map use_as_checked us)) (kept o e u.outcome)
+    ∙ ap (λ (n : ℕ). if_outcome o u.outcome u.segments + n) (counted_kept o e us)
+
+-- none of these is a refusal
+no_context_is_other : (o : SegmentOutcome) → IsNoRefusal o → same_outcome o (outcome.Refused NoContext) ≡ false
+no_context_is_other o (IsVerified e) = rw e refl
+no_context_is_other o (IsOfNoNode e) = rw e refl
+no_context_is_other o (IsTooMany e) = rw e refl
+
+range_is_other : (o : SegmentOutcome) → IsNoRefusal o → same_outcome o (outcome.Refused Range) ≡ false
+range_is_other o (IsVerified e) = rw e refl
+range_is_other o (IsOfNoNode e) = rw e refl
+range_is_other o (IsTooMany e) = rw e refl
+
+bad_mac_is_other : (o : SegmentOutcome) → IsNoRefusal o → same_outcome o (outcome.Refused BadMac) ≡ false
+bad_mac_is_other o (IsVerified e) = rw e refl
+bad_mac_is_other o (IsOfNoNode e) = rw e refl
+bad_mac_is_other o (IsTooMany e) = rw e refl
+
+abbrev one_if : Bool → ℕ
+one_if b = if b then 1 else 0
+
+told_kept : (o : SegmentOutcome) → IsNoRefusal o → (anew : Bool) (w : Saying) → said_once o (outcome_of (told_anew anew w)) ≡ said_once o (outcome_of w)
+told_kept o e false w = refl
+told_kept o e true (Unreadable fault) = refl
+told_kept o e true UnknownNode = refl
+told_kept o e true (TooManyConnections checksum) = refl
+told_kept o e true (Judged (Ok p) checksum) = refl
+told_kept o e true (Judged (Err (Pass p)) checksum) = refl
+told_kept o e true (Judged (Err NoAo) checksum) = refl
+told_kept o e true (Judged (Err TwoAo) checksum) = refl
+told_kept o e true (Judged (Err WithMd5) checksum) = refl
+told_kept o e true (Judged (Err NoTuple) checksum) = refl
+told_kept o e true (Judged (Err Expired) checksum) = refl
+told_kept o e true (Judged (Err MacLength) checksum) = refl
+told_kept o e true (Judged (Err NoContext) checksum) = refl
+told_kept o e true (Judged (Err Range) checksum) = ap one_if (no_context_is_other o e ∙ sym (range_is_other o e))
+told_kept o e true (Judged (Err BadMac) checksum) = ap one_if (no_context_is_other o e ∙ sym (bad_mac_is_other o e))
+
+once_kept : (o : SegmentOutcome) → IsNoRefusal o → (tables : List Table) (held : List Connection) (openings : List Opening) (now : ℕ) (r : Reading) →
+    said_once o (checked_by tables held openings now r).outcome ≡ said_once o (outcome_of (hear_read tables held now r).saying)
+once_kept o e tables held openings now (Bad fault) = refl
+once_kept o e tables held openings now (Read d) = told_kept o e (is_opened_anew d held openings) (hear_read tables held now (Read d)).saying
+
+checked_held : (tables : List Table) (held : List Connection) (openings : List Opening) (now : ℕ) (r : Reading) → (checked_by tables held openings now r).listening.held ≡ (hear_read tables held now r).connections
+checked_held tables held openings now (Bad fault) = refl
+checked_held tables held openings now (Read d) = refl
+
+told_as_said : (o : SegmentOutcome) → IsNoRefusal o → (tables : List Table) (held : List Connection) (openings : List Opening) (stored : List Stored) → told_times o tables held openings stored ≡ said_times o (sayings_from tables held stored)
+unfolding hear
+told_as_said o e tables held openings [] = refl
+told_as_said o e tables held openings (s ∷ rest) =
+    let r = reading s.bytes in
+    let h = checked_by tables held openings s.time r in
+    let others = told_as_said o e tables h.listening.held h.listening.openings rest ∙ ap (λ (cs : List Connection). said_times o (sayings_from tables cs rest)) (checked_held tables held openings s.time r) in
+    ap (λ (n : ℕ). n + told_times o tables h.listening.held h.listening.openings rest) (once_kept o e tables held openings s.time r)
+    ∙ ap (λ (n : ℕ). said_once o (outcome_of (hear_read tables held s.time r).saying) + n) others
+
+pub unrefused_counted : (tables : List Table) (given : List GivenIsns) (packets : List CapturePacket) (o : SegmentOutcome) → IsNoRefusal o →
+    counted o (sessions_of (without_laps tables) given packets).uses ≡ said_times o (sayings_from tables (given_after [] given) (all_stored packets))
+unrefused_counted tables given packets o e =
+    sym (counted_kept o e (sessions_of (without_laps tables) given packets).uses)
+    ∙ (verdicts_counted tables given packets o
+    ∙ told_as_said o e tables (given_after [] given) [] (all_stored packets))
 
 -- ---- each packet
 

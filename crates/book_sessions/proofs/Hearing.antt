@@ -9,15 +9,15 @@ use Rattle.book_keys.specs.Rows.{Table, has_address}
 use Rattle.book_endpoint.specs.Verdicts.{Finding, Judgement}
 use Rattle.book_endpoint.specs.declared.verdict.Verdict.TheVariants.{Pass, NoAo, TwoAo, WithMd5, NoTuple, Expired, MacLength, NoContext, Range, BadMac}
 use Rattle.book_cmd_show.specs.DatagramTexts.{checksum_in}
-use Rattle.book_cmd_check.specs.Captures.{Stored, Connection, Heard, Saying, Unreadable, UnknownNode, Judged, TooManyConnections, connection_between, with_connection, fixed, most_connections, judge_stored, hear_later, hear_syn_ack, hear_judged, hear_at, hear_read, hear}
+use Rattle.book_cmd_check.specs.Captures.{Stored, Connection, Heard, Saying, Unreadable, UnknownNode, Judged, TooManyConnections, connection_between, with_connection, fixed, most_connections, judge_stored, hear_later, hear_syn_ack, hear_judged, hear_at, hear_read}
 use Rattle.book_sessions.specs.declared.outcome.SegmentOutcome.{SegmentOutcome}
 use Rattle.book_sessions.specs.declared.outcome.SegmentOutcome.TheVariants as outcome
 use Rattle.book_sessions.specs.declared.uses.SeenSegment.{SeenSegment}
-use Rattle.book_sessions.specs.Glimpses.{Opening, openings_after, glimpsed, is_judged, is_unknown}
+use Rattle.book_sessions.specs.Glimpses.{Opening, openings_after, glimpsed, is_judged, is_opened_anew, is_refused, is_unknown, told_anew}
 use Rattle.book_sessions.specs.Laps.{Judging, is_searched, heard_further, heard_by, hear_over}
-use Rattle.book_sessions.specs.Listening.{Listening, Listened, outcome_of, pass_of, unconfirmed_of, heard_once, heard_twice, listen}
+use Rattle.book_sessions.specs.Listening.{Listening, Listened, outcome_of, pass_of, unconfirmed_of, heard_once, heard_twice, listen, said_of}
 use Rattle.book_sessions.specs.Sessions.{seen_as, seen_by}
-use Rattle.book_sessions.specs.Counts.{as_checked, seen_before, segments_heard, segments_seen}
+use Rattle.book_sessions.specs.Counts.{as_checked, checked_by, seen_before, segments_heard, segments_seen}
 
 -- by these tables, without a search
 abbrev pub without_laps : List Table → Judging
@@ -50,7 +50,7 @@ heard_at_once tables held now d =
     let found = heard_further (heard_by (without_laps tables) now d) 0 held (connection_between d held) in
     choose (is_searched d h.saying) found h (none_further (heard_by (without_laps tables) now d) held (connection_between d held))
 
--- ---- what has no context by the connections held is judged by other connections
+-- ---- what is refused by the connections held is judged by other connections
 
 -- what is heard of a SYN with ACK that passes, of no connection that is held
 abbrev heard_new : (full : Bool) → List Connection → Segment → Finding → Heard
@@ -59,15 +59,15 @@ heard_new full held d p =
     then record { connections = held; saying = TooManyConnections (checksum_in d) }
     else record { connections = with_connection (fixed d) held; saying = Judged (Ok p) (checksum_in d) }
 
-full_known : (full : Bool) (held : List Connection) (d : Segment) (p : Finding) → is_unknown (heard_new full held d p).saying ≡ false
+full_known : (full : Bool) (held : List Connection) (d : Segment) (p : Finding) → is_refused (heard_new full held d p).saying ≡ false
 full_known true held d p = refl
 full_known false held d p = refl
 
-syn_ack_known : (held : List Connection) (d : Segment) (p : Finding) (c : Option Connection) → is_unknown (hear_syn_ack held d (Ok p) c).saying ≡ false
+syn_ack_known : (held : List Connection) (d : Segment) (p : Finding) (c : Option Connection) → is_refused (hear_syn_ack held d (Ok p) c).saying ≡ false
 syn_ack_known held d p (Some c) = refl
 syn_ack_known held d p None = full_known (nat_le most_connections (length held)) held d p
 
-later_known : (held : List Connection) (d : Segment) (p : Finding) (c : Option Connection) → is_unknown (hear_later held d p.number (Ok p) c).saying ≡ false
+later_known : (held : List Connection) (d : Segment) (p : Finding) (c : Option Connection) → is_refused (hear_later held d p.number (Ok p) c).saying ≡ false
 later_known held d p (Some c) = refl
 later_known held d p None = refl
 
@@ -82,7 +82,7 @@ heard_pass syn ack held d p c =
     else if ack then hear_syn_ack held d (Ok p) c
     else record { connections = held; saying = Judged (Ok p) (checksum_in d) }
 
-pass_known : (syn ack : Bool) (held : List Connection) (d : Segment) (p : Finding) (c : Option Connection) → is_unknown (heard_pass syn ack held d p c).saying ≡ false
+pass_known : (syn ack : Bool) (held : List Connection) (d : Segment) (p : Finding) (c : Option Connection) → is_refused (heard_pass syn ack held d p c).saying ≡ false
 pass_known true true held d p c = syn_ack_known held d p c
 pass_known true false held d p c = refl
 pass_known false ack held d p c = later_known held d p c
@@ -96,12 +96,12 @@ no_pass b e f = sym f ∙ e
 
 -- a SYN is judged alike by any connections, and another segment is judged by any
 judged_again : (syn : Bool) (held guessed : List Connection) (d : Segment) (c k : Option Connection) (one other : Judgement) → has SYN d ≡ syn → (syn ≡ true → one ≡ other) →
-    is_unknown (hear_judged held d c one).saying ≡ true → is_judged (hear_judged guessed d k other).saying ≡ true
-judged_again syn held guessed d c k one (Err why) e alike unknown = refl
-judged_again syn held guessed d c k (Ok p) (Ok q) e alike unknown =
-    let impossible = no_pass _ (pass_known (has SYN d) (has ACK d) held d p c) unknown in absurd (cc)
-judged_again true held guessed d c k (Err why) (Ok q) e alike unknown = let same = alike refl in absurd (cc)
-judged_again false held guessed d c k (Err why) (Ok q) e alike unknown = pass_judged (has SYN d) (has ACK d) guessed d q k e
+    is_refused (hear_judged held d c one).saying ≡ true → is_judged (hear_judged guessed d k other).saying ≡ true
+judged_again syn held guessed d c k one (Err why) e alike refused = refl
+judged_again syn held guessed d c k (Ok p) (Ok q) e alike refused =
+    let impossible = no_pass _ (pass_known (has SYN d) (has ACK d) held d p c) refused in absurd (cc)
+judged_again true held guessed d c k (Err why) (Ok q) e alike refused = let same = alike refl in absurd (cc)
+judged_again false held guessed d c k (Err why) (Ok q) e alike refused = pass_judged (has SYN d) (has ACK d) guessed d q k e
 
 alike_if : {A : Type 0} (b : Bool) (x y z : A) → b ≡ true → (if b then x else y) ≡ (if b then x else z)
 alike_if true x y z e = refl
@@ -112,17 +112,17 @@ abbrev heard_at : Bool → List Connection → Segment → Option Connection →
 heard_at same held d c one = if same then record { connections = held; saying = UnknownNode } else hear_judged held d c one
 
 judged_at : (same : Bool) (held guessed : List Connection) (d : Segment) (c k : Option Connection) (one other : Judgement) → (has SYN d ≡ true → one ≡ other) →
-    is_unknown (heard_at same held d c one).saying ≡ true → is_judged (heard_at same guessed d k other).saying ≡ true
-judged_at true held guessed d c k one other alike unknown = absurd (cc)
-judged_at false held guessed d c k one other alike unknown = judged_again (has SYN d) held guessed d c k one other refl alike unknown
+    is_refused (heard_at same held d c one).saying ≡ true → is_judged (heard_at same guessed d k other).saying ≡ true
+judged_at true held guessed d c k one other alike refused = absurd (cc)
+judged_at false held guessed d c k one other alike refused = judged_again (has SYN d) held guessed d c k one other refl alike refused
 
-judged_by : (t : Option Table) (held guessed : List Connection) (now : ℕ) (d : Segment) → is_unknown (hear_at t held now d).saying ≡ true → is_judged (hear_at t guessed now d).saying ≡ true
-judged_by None held guessed now d unknown = absurd (cc)
-judged_by (Some t) held guessed now d unknown =
+judged_by : (t : Option Table) (held guessed : List Connection) (now : ℕ) (d : Segment) → is_refused (hear_at t held now d).saying ≡ true → is_judged (hear_at t guessed now d).saying ≡ true
+judged_by None held guessed now d refused = absurd (cc)
+judged_by (Some t) held guessed now d refused =
     let c = connection_between d held in
     let k = connection_between d guessed in
     judged_at (same_socket d.source d.destination) held guessed d c k (judge_stored t.rows (pair_reached d) now d c) (judge_stored t.rows (pair_reached d) now d k)
-    (alike_if (has SYN d) _ _ _) unknown
+    (alike_if (has SYN d) _ _ _) refused
 
 guess_checked : (w : Saying) → is_judged w ≡ true → checked (unconfirmed_of w) ≡ Ok (outcome.Refused NoContext)
 guess_checked (Unreadable fault) e = absurd (cc)
@@ -156,12 +156,43 @@ unknown_outcome (Judged (Err NoContext) checksum) e = refl
 unknown_outcome (Judged (Err Range) checksum) e = absurd (cc)
 unknown_outcome (Judged (Err BadMac) checksum) e = absurd (cc)
 
-second_hearing : (tables : List Table) (held guessed : List Connection) (now : ℕ) (d : Segment) → is_unknown (hear_read tables held now (Read d)).saying ≡ true →
-    checked (unconfirmed_of (hear_read tables guessed now (Read d)).saying) ≡ outcome_of (hear_read tables held now (Read d)).saying
-second_hearing tables held guessed now d unknown =
+-- what has no context, as it is told, is refused
+pub told_refused : (anew : Bool) (w : Saying) → is_unknown (told_anew anew w) ≡ true → is_refused w ≡ true
+told_refused true (Unreadable fault) e = absurd (cc)
+told_refused true UnknownNode e = absurd (cc)
+told_refused true (TooManyConnections checksum) e = absurd (cc)
+told_refused true (Judged (Ok p) checksum) e = absurd (cc)
+told_refused false (Unreadable fault) e = absurd (cc)
+told_refused false UnknownNode e = absurd (cc)
+told_refused false (TooManyConnections checksum) e = absurd (cc)
+told_refused false (Judged (Ok p) checksum) e = absurd (cc)
+told_refused anew (Judged (Err why) checksum) e = refl
+
+-- what isn't told as one without context is told as it is
+pub told_as_is : (anew : Bool) (w : Saying) → is_unknown (told_anew anew w) ≡ false → told_anew anew w ≡ w
+told_as_is false w e = refl
+told_as_is true (Unreadable fault) e = refl
+told_as_is true UnknownNode e = refl
+told_as_is true (TooManyConnections checksum) e = refl
+told_as_is true (Judged (Ok p) checksum) e = refl
+told_as_is true (Judged (Err (Pass p)) checksum) e = refl
+told_as_is true (Judged (Err NoAo) checksum) e = refl
+told_as_is true (Judged (Err TwoAo) checksum) e = refl
+told_as_is true (Judged (Err WithMd5) checksum) e = refl
+told_as_is true (Judged (Err NoTuple) checksum) e = refl
+told_as_is true (Judged (Err Expired) checksum) e = refl
+told_as_is true (Judged (Err MacLength) checksum) e = refl
+told_as_is true (Judged (Err NoContext) checksum) e = refl
+told_as_is true (Judged (Err Range) checksum) e = absurd (cc)
+told_as_is true (Judged (Err BadMac) checksum) e = absurd (cc)
+
+second_hearing : (tables : List Table) (held guessed : List Connection) (now : ℕ) (d : Segment) (anew : Bool) → is_unknown (told_anew anew (hear_read tables held now (Read d)).saying) ≡ true →
+    checked (unconfirmed_of (hear_read tables guessed now (Read d)).saying) ≡ outcome_of (told_anew anew (hear_read tables held now (Read d)).saying)
+second_hearing tables held guessed now d anew unknown =
     let t = find (has_address d.destination.address) tables in
-    guess_checked (hear_at t guessed now d).saying (judged_by t held guessed now d unknown)
-    ∙ sym (unknown_outcome (hear_at t held now d).saying unknown)
+    let w = (hear_at t held now d).saying in
+    guess_checked (hear_at t guessed now d).saying (judged_by t held guessed now d (told_refused anew w unknown))
+    ∙ sym (unknown_outcome (told_anew anew w) unknown)
 
 -- ---- one segment
 
@@ -173,44 +204,63 @@ outcome_checked (Judged (Err why) checksum) = refl
 outcome_checked (TooManyConnections checksum) = refl
 
 -- what is known after one hearing or two, and what comes of the segment
-abbrev listened : Bool → (h k : Heard) → List Connection → List Opening → Listened
+abbrev pub listened : Bool → (h k : Heard) → List Connection → List Opening → Listened
 listened b h k guessed openings = if b then heard_twice h k openings else heard_once h guessed openings
 
 listened_held : (b : Bool) (h k : Heard) (guessed : List Connection) (openings : List Opening) → (listened b h k guessed openings).listening.held ≡ h.connections
 listened_held true h k guessed openings = refl
 listened_held false h k guessed openings = refl
 
-listened_outcome : (b : Bool) (h k : Heard) (guessed : List Connection) (openings : List Opening) → (b ≡ true → checked (unconfirmed_of k.saying) ≡ outcome_of h.saying) →
-    checked (listened b h k guessed openings).outcome ≡ outcome_of h.saying
-listened_outcome true h k guessed openings twice = twice refl
-listened_outcome false h k guessed openings twice = outcome_checked h.saying
+listened_openings : (b : Bool) (h k : Heard) (guessed : List Connection) (openings : List Opening) → (listened b h k guessed openings).listening.openings ≡ openings
+listened_openings true h k guessed openings = refl
+listened_openings false h k guessed openings = refl
 
-held_alike : (tables : List Table) (l : Listening) (now : ℕ) (r : Reading) → (listen (without_laps tables) l now r).listening.held ≡ (hear_read tables l.held now r).connections
+listened_outcome : (b : Bool) (h k : Heard) (guessed : List Connection) (openings : List Opening) (told : Saying) → (b ≡ true → checked (unconfirmed_of k.saying) ≡ outcome_of told) → (b ≡ false → told ≡ h.saying) →
+    checked (listened b h k guessed openings).outcome ≡ outcome_of told
+listened_outcome true h k guessed openings told twice once = twice refl
+listened_outcome false h k guessed openings told twice once = outcome_checked h.saying ∙ ap outcome_of (sym (once refl))
+
+held_alike : (tables : List Table) (l : Listening) (now : ℕ) (r : Reading) → (listen (without_laps tables) l now r).listening.held ≡ (checked_by tables l.held l.openings now r).listening.held
 unfolding listen
 held_alike tables l now (Bad fault) = refl
 held_alike tables l now (Read d) =
-    let h = hear_over (without_laps tables) l.held now d in
-    let guessed = glimpsed d h.saying l.openings l.guessed in
-    listened_held (is_unknown h.saying) h (hear_over (without_laps tables) guessed now d) guessed (openings_after d h.saying l.openings)
+    let j = without_laps tables in
+    let h = hear_over j l.held now d in
+    let guessed = glimpsed d (said_of j l now d) l.openings l.guessed in
+    listened_held (is_unknown (said_of j l now d)) h (hear_over j guessed now d) guessed (openings_after d h.saying l.openings)
     ∙ ap (λ (x : Heard). x.connections) (heard_at_once tables l.held now d)
 
-told_twice : (tables : List Table) (held guessed : List Connection) (now : ℕ) (d : Segment) (h k : Heard) → h ≡ hear_read tables held now (Read d) → k ≡ hear_read tables guessed now (Read d) →
-    is_unknown h.saying ≡ true → checked (unconfirmed_of k.saying) ≡ outcome_of h.saying
-told_twice tables held guessed now d h k first second unknown =
-    ap (λ (x : Heard). checked (unconfirmed_of x.saying)) second
-    ∙ (second_hearing tables held guessed now d (sym (ap (λ (x : Heard). is_unknown x.saying) first) ∙ unknown)
-    ∙ sym (ap (λ (x : Heard). outcome_of x.saying) first))
+openings_alike : (tables : List Table) (l : Listening) (now : ℕ) (r : Reading) → (listen (without_laps tables) l now r).listening.openings ≡ (checked_by tables l.held l.openings now r).listening.openings
+unfolding listen
+openings_alike tables l now (Bad fault) = refl
+openings_alike tables l now (Read d) =
+    let j = without_laps tables in
+    let h = hear_over j l.held now d in
+    let guessed = glimpsed d (said_of j l now d) l.openings l.guessed in
+    listened_openings (is_unknown (said_of j l now d)) h (hear_over j guessed now d) guessed (openings_after d h.saying l.openings)
+    ∙ ap (λ (x : Heard). openings_after d x.saying l.openings) (heard_at_once tables l.held now d)
 
-outcome_alike : (tables : List Table) (l : Listening) (now : ℕ) (r : Reading) → checked (listen (without_laps tables) l now r).outcome ≡ outcome_of (hear_read tables l.held now r).saying
+told_twice : (tables : List Table) (held guessed : List Connection) (now : ℕ) (d : Segment) (anew : Bool) (h k : Heard) → h ≡ hear_read tables held now (Read d) → k ≡ hear_read tables guessed now (Read d) →
+    is_unknown (told_anew anew h.saying) ≡ true → checked (unconfirmed_of k.saying) ≡ outcome_of (told_anew anew h.saying)
+told_twice tables held guessed now d anew h k first second unknown =
+    ap (λ (x : Heard). checked (unconfirmed_of x.saying)) second
+    ∙ (second_hearing tables held guessed now d anew (sym (ap (λ (x : Heard). is_unknown (told_anew anew x.saying)) first) ∙ unknown)
+    ∙ sym (ap (λ (x : Heard). outcome_of (told_anew anew x.saying)) first))
+
+outcome_alike : (tables : List Table) (l : Listening) (now : ℕ) (r : Reading) → checked (listen (without_laps tables) l now r).outcome ≡ (checked_by tables l.held l.openings now r).outcome
 unfolding listen
 outcome_alike tables l now (Bad fault) = refl
 outcome_alike tables l now (Read d) =
-    let h = hear_over (without_laps tables) l.held now d in
-    let guessed = glimpsed d h.saying l.openings l.guessed in
-    let k = hear_over (without_laps tables) guessed now d in
-    listened_outcome (is_unknown h.saying) h k guessed (openings_after d h.saying l.openings)
-    (told_twice tables l.held guessed now d h k (heard_at_once tables l.held now d) (heard_at_once tables guessed now d))
-    ∙ ap (λ (x : Heard). outcome_of x.saying) (heard_at_once tables l.held now d)
+    let j = without_laps tables in
+    let h = hear_over j l.held now d in
+    let anew = is_opened_anew d l.held l.openings in
+    let told = told_anew anew h.saying in
+    let guessed = glimpsed d told l.openings l.guessed in
+    let k = hear_over j guessed now d in
+    listened_outcome (is_unknown told) h k guessed (openings_after d h.saying l.openings) told
+    (told_twice tables l.held guessed now d anew h k (heard_at_once tables l.held now d) (heard_at_once tables guessed now d))
+    (told_as_is anew h.saying)
+    ∙ ap (λ (x : Heard). outcome_of (told_anew anew x.saying)) (heard_at_once tables l.held now d)
 
 -- ---- all segments
 
@@ -227,28 +277,31 @@ unknown_passes_not (TooManyConnections checksum) e = refl
 unknown_passes_not (Judged (Ok p) checksum) e = absurd (cc)
 unknown_passes_not (Judged (Err why) checksum) e = refl
 
-listened_pass : (b : Bool) (h k : Heard) (guessed : List Connection) (openings : List Opening) → (b ≡ true → None ≡ pass_of h.saying) → (listened b h k guessed openings).pass ≡ pass_of h.saying
-listened_pass true h k guessed openings none = none refl
-listened_pass false h k guessed openings none = refl
+listened_pass : (b : Bool) (h k : Heard) (guessed : List Connection) (openings : List Opening) (told : Saying) → (b ≡ true → None ≡ pass_of told) → (b ≡ false → told ≡ h.saying) → (listened b h k guessed openings).pass ≡ pass_of told
+listened_pass true h k guessed openings told none once = none refl
+listened_pass false h k guessed openings told none once = ap pass_of (sym (once refl))
 
-pass_alike : (tables : List Table) (l : Listening) (now : ℕ) (r : Reading) → (listen (without_laps tables) l now r).pass ≡ pass_of (hear_read tables l.held now r).saying
+pass_alike : (tables : List Table) (l : Listening) (now : ℕ) (r : Reading) → (listen (without_laps tables) l now r).pass ≡ (checked_by tables l.held l.openings now r).pass
 unfolding listen
 pass_alike tables l now (Bad fault) = refl
 pass_alike tables l now (Read d) =
-    let h = hear_over (without_laps tables) l.held now d in
-    let guessed = glimpsed d h.saying l.openings l.guessed in
-    listened_pass (is_unknown h.saying) h (hear_over (without_laps tables) guessed now d) guessed (openings_after d h.saying l.openings) (unknown_passes_not h.saying)
-    ∙ ap (λ (x : Heard). pass_of x.saying) (heard_at_once tables l.held now d)
+    let j = without_laps tables in
+    let h = hear_over j l.held now d in
+    let anew = is_opened_anew d l.held l.openings in
+    let told = told_anew anew h.saying in
+    let guessed = glimpsed d told l.openings l.guessed in
+    listened_pass (is_unknown told) h (hear_over j guessed now d) guessed (openings_after d h.saying l.openings) told (unknown_passes_not told) (told_as_is anew h.saying)
+    ∙ ap (λ (x : Heard). pass_of (told_anew anew x.saying)) (heard_at_once tables l.held now d)
 
 -- the segments that are heard, as `check` says it of them
-pub heard_as_checked : (tables : List Table) (l : Listening) (stored : List Stored) → map seen_as_checked (segments_heard (without_laps tables) l stored) ≡ segments_seen tables l.held stored
-unfolding hear
+pub heard_as_checked : (tables : List Table) (l : Listening) (stored : List Stored) → map seen_as_checked (segments_heard (without_laps tables) l stored) ≡ segments_seen tables l.held l.openings stored
 heard_as_checked tables l [] = refl
 heard_as_checked tables l (s ∷ rest) =
     let r = reading s.bytes in
     let h = listen (without_laps tables) l s.time r in
-    let others = heard_as_checked tables h.listening rest ∙ ap (λ (held : List Connection). segments_seen tables held rest) (held_alike tables l s.time r) in
-    let m = heard_once (hear_read tables l.held s.time r) [] [] in
+    let m = checked_by tables l.held l.openings s.time r in
+    let others = heard_as_checked tables h.listening rest ∙ (ap (λ (held : List Connection). segments_seen tables held h.listening.openings rest) (held_alike tables l s.time r)
+    ∙ ap (λ (openings : List Opening). segments_seen tables m.listening.held openings rest) (openings_alike tables l s.time r)) in
     seen_alike s h m r h.outcome (segments_heard (without_laps tables) h.listening rest) (held_alike tables l s.time r) (pass_alike tables l s.time r)
     ∙ (ap (λ o. seen_before (seen_as s m r o) (map seen_as_checked (segments_heard (without_laps tables) h.listening rest))) (outcome_alike tables l s.time r)
     ∙ ap (λ (ss : List SeenSegment). seen_before (seen_by s r m) ss) others)

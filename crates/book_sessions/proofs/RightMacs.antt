@@ -10,7 +10,7 @@ use Rattle.book_cmd_check.specs.Captures.{Connection, Heard, Saying, Unreadable,
 use Rattle.book_sessions.specs.declared.outcome.SegmentOutcome.TheVariants as outcome
 use Rattle.book_sessions.specs.Glimpses.{Opening, glimpsed, is_unknown, openings_after}
 use Rattle.book_sessions.specs.Laps.{Judging, with_expected, if_pass, heard_ahead, first_from, heard_further, is_searched, heard_by, hear_over}
-use Rattle.book_sessions.specs.Listening.{Listening, Listened, outcome_of, unconfirmed_of, heard_once, heard_twice, listen}
+use Rattle.book_sessions.specs.Listening.{Listening, Listened, outcome_of, unconfirmed_of, heard_once, heard_twice, listen, said_of}
 use Rattle.book_sessions.specs.Passing.{PassesBehind, AtOnce, Later, FoundAhead, PassesGuessed}
 
 -- ---- which words are told of which sayings
@@ -143,7 +143,7 @@ some_pass : (b : Bool) (h k : Heard) → is_pass h.saying ≡ b → (if b then S
 some_pass true h k is e = sym (ap (λ (o : Option Heard). is_pass (unwrap_or o h).saying) e) ∙ is
 some_pass false h k is e = absurd (cc)
 
-ahead_passes : (b : Bool) (h k : Heard) → (if b then if_pass h else None) ≡ Some k → is_pass k.saying ≡ true
+pub ahead_passes : (b : Bool) (h k : Heard) → (if b then if_pass h else None) ≡ Some k → is_pass k.saying ≡ true
 ahead_passes true h k e = some_pass (is_pass h.saying) h k refl e
 ahead_passes false h k e = absurd (cc)
 
@@ -191,13 +191,13 @@ pub verified_is_right : (j : Judging) (l : Listening) (now : ℕ) (d : Segment) 
 unfolding listen
 verified_is_right j l now d e =
     let h = hear_over j l.held now d in
-    let guessed = glimpsed d h.saying l.openings l.guessed in
-    passes j l.held now d (told_verified (is_unknown h.saying) h (hear_over j guessed now d) guessed (openings_after d h.saying l.openings) e)
+    let guessed = glimpsed d (said_of j l now d) l.openings l.guessed in
+    passes j l.held now d (told_verified (is_unknown (said_of j l now d)) h (hear_over j guessed now d) guessed (openings_after d h.saying l.openings) e)
 
 pub unconfirmed_is_right : (j : Judging) (l : Listening) (now : ℕ) (d : Segment) → (listen j l now (Read d)).outcome ≡ Ok outcome.Unconfirmed → PassesGuessed j l now d
 unfolding listen
 unconfirmed_is_right j l now d e =
     let h = hear_over j l.held now d in
-    let guessed = glimpsed d h.saying l.openings l.guessed in
-    let both = told_unconfirmed (is_unknown h.saying) h (hear_over j guessed now d) guessed (openings_after d h.saying l.openings) e in
+    let guessed = glimpsed d (said_of j l now d) l.openings l.guessed in
+    let both = told_unconfirmed (is_unknown (said_of j l now d)) h (hear_over j guessed now d) guessed (openings_after d h.saying l.openings) e in
     record { unknown = both.0; passes = passes j guessed now d both.1 }

@@ -1,7 +1,7 @@
 -- Datagrams that a capture has otherwise than the wire: without the header checksum that a card
 -- sets later; and those that are told as none of TCP (own). Its tops: `mended`, `told_fault`.
 use Rattle.std.specs.Prelude.{ℕ, ◌*◌, ◌%◌, ◌==◌, nat_le, nat_lt, ◌&&◌, ◌||◌, Bool, true, false, not}
-use Rattle.std.specs.Prelude.{List, [], ◌∷◌, ◌++◌, take, drop, length, slice_index}
+use Rattle.std.specs.Prelude.{List, ◌++◌, take, drop, length, slice_index}
 use Rattle.std.specs.Prelude.{if◌then◌else◌}
 use Rattle.book_segments.specs.declared.fault.DatagramFault.{DatagramFault}
 use Rattle.book_segments.specs.declared.fault.DatagramFault.TheVariants.{HeaderChecksum, NotTcp}

@@ -1,9 +1,10 @@
 -- The numbers in a table of sessions, and how often something is said (own).
-use Rattle.std.specs.Prelude.{ℕ, ◌+◌, Bool, false, List, [], ◌∷◌, Result, Ok, Err, if◌then◌else◌}
+use Rattle.std.specs.Prelude.{◌≡◌, ℕ, ◌+◌, Bool, false, List, [], ◌∷◌, Result, Ok, Err}
+use Rattle.std.specs.Prelude.{if◌then◌else◌}
 use Rattle.book_segments.specs.declared.fault.DatagramFault.{DatagramFault}
-use Rattle.book_segments.specs.Segments.{reading}
+use Rattle.book_segments.specs.Segments.{Reading, Read, Bad, reading}
 use Rattle.book_keys.specs.Rows.{Table}
-use Rattle.book_cmd_check.specs.Captures.{Saying, Stored, Connection, hear}
+use Rattle.book_cmd_check.specs.Captures.{Heard, Saying, Stored, Connection, hear_read}
 use Rattle.book_sessions.specs.declared.outcome.PassedOver.{PassedOver}
 use Rattle.book_endpoint.specs.declared.verdict.Verdict.TheVariants.{NoContext}
 use Rattle.book_sessions.specs.declared.outcome.SegmentOutcome.{SegmentOutcome}
@@ -12,8 +13,9 @@ use Rattle.book_sessions.specs.declared.uses.KeyUse.{KeyUse}
 use Rattle.book_sessions.specs.declared.uses.PassedCount.{PassedCount}
 use Rattle.book_sessions.specs.declared.uses.SeenSegment.{SeenSegment}
 use Rattle.book_sessions.specs.declared.uses.Signs.{Signs}
+use Rattle.book_sessions.specs.Glimpses.{Opening, is_opened_anew, openings_after, told_anew}
 use Rattle.book_sessions.specs.Laps.{Judging}
-use Rattle.book_sessions.specs.Listening.{Listening, heard_once, listen, outcome_of}
+use Rattle.book_sessions.specs.Listening.{Listened, Listening, heard_once, listen, outcome_of}
 use Rattle.book_sessions.specs.Sessions.{same_outcome, seen_by, is_use_of, first_use}
 
 -- so many, if it is the outcome that is asked for (own)
@@ -50,12 +52,38 @@ abbrev pub seen_before : Result SeenSegment PassedOver → List SeenSegment → 
 seen_before (Ok s) others = s ∷ others
 seen_before (Err why) others = others
 
+-- what is heard of a segment, where a refusal by a connection that was opened anew counts as no
+-- context (own)
+abbrev pub heard_anew : (anew : Bool) → Heard → Heard
+heard_anew anew h = record h { saying = told_anew anew h.saying }
+
+-- what `check` says of what is read by the connections that it holds, and by these openings (own)
+abbrev pub checked_by : List Table → List Connection → List Opening → (now : ℕ) → Reading →
+    Listened
+checked_by tables held openings now (Bad fault) =
+    heard_once (hear_read tables held now (Bad fault)) [] openings
+checked_by tables held openings now (Read d) = let h = hear_read tables held now (Read d) in
+    heard_once (heard_anew (is_opened_anew d held openings) h) []
+    (openings_after d h.saying openings)
+
 -- the segments of stored datagrams, each with what `check` says of it (own)
-abbrev pub segments_seen : List Table → List Connection → List Stored → List SeenSegment
-segments_seen tables held [] = []
-segments_seen tables held (s ∷ rest) = let h = hear tables held s.time s.bytes in
-    seen_before (seen_by s (reading s.bytes) (heard_once h [] []))
-    (segments_seen tables h.connections rest)
+abbrev pub segments_seen : List Table → List Connection → List Opening → List Stored →
+    List SeenSegment
+segments_seen tables held openings [] = []
+segments_seen tables held openings (s ∷ rest) =
+    let h = checked_by tables held openings s.time (reading s.bytes) in
+    seen_before (seen_by s (reading s.bytes) h)
+    (segments_seen tables h.listening.held h.listening.openings rest)
+
+-- how often an outcome is that of what `check` says of stored datagrams, where a refusal by a
+-- connection that was opened anew counts as no context (own)
+abbrev pub told_times : SegmentOutcome → List Table → List Connection → List Opening →
+    List Stored → ℕ
+told_times o tables held openings [] = 0
+told_times o tables held openings (s ∷ rest) =
+    let h = checked_by tables held openings s.time (reading s.bytes) in
+    said_once o h.outcome
+    + told_times o tables h.listening.held h.listening.openings rest
 
 -- the segments of stored datagrams, each with what comes of it (own)
 abbrev pub segments_heard : Judging → Listening → List Stored → List SeenSegment
@@ -64,7 +92,7 @@ segments_heard j l (s ∷ rest) = let h = listen j l s.time (reading s.bytes) in
     seen_before (seen_by s (reading s.bytes) h) (segments_heard j h.listening rest)
 
 -- what `check` says of a segment of which this comes: of one whose handshake isn't verified it
--- knows no context (own)
+-- knows no context, but perhaps that of an older connection (own)
 abbrev pub as_checked : SegmentOutcome → SegmentOutcome
 as_checked outcome.Unconfirmed = outcome.Refused NoContext
 as_checked (outcome.UnconfirmedRefused why) = outcome.Refused NoContext
@@ -97,3 +125,9 @@ like_times s (other ∷ others) = (if is_like s other then 1 else 0) + like_time
 abbrev pub like_counted : SeenSegment → List KeyUse → ℕ
 like_counted s [] = 0
 like_counted s (u ∷ us) = (if is_use_of s u then u.segments else 0) + like_counted s us
+
+-- the outcome is no refusal: verified, of no node, or of a connection too many (own)
+pub data IsNoRefusal (o : SegmentOutcome) : Type 0 where
+  IsVerified : o ≡ outcome.Verified → IsNoRefusal o
+  IsOfNoNode : o ≡ outcome.NoNode → IsNoRefusal o
+  IsTooMany : o ≡ outcome.TooMany → IsNoRefusal o

@@ -12,6 +12,7 @@ use Rattle.book_cmd_check.specs.Handshakes.{given_after}
 use Rattle.book_sessions.specs.declared.outcome.SegmentOutcome.{SegmentOutcome}
 use Rattle.book_sessions.specs.declared.outcome.SegmentOutcome.TheVariants as outcome
 use Rattle.book_sessions.specs.Glimpses.{Opening, openings_after, glimpsed, is_unknown}
+use Rattle.book_sessions.specs.Glimpses.{is_opened_anew, told_anew}
 use Rattle.book_sessions.specs.Laps.{Judging, hear_over}
 
 -- what is known while a capture is heard: the connections that `check` holds, those that are taken
@@ -65,14 +66,20 @@ heard_twice h k openings = record {
   pass = None;
 }
 
--- a segment is heard by what is known; where it has no context by the connections held, it is heard
--- by those that are taken to have begun (own)
+-- what is said of a segment by the connections held: by one that was opened anew, no refusal for
+-- its numbers (own)
+abbrev pub said_of : Judging → Listening → (now : ℕ) → Segment → Saying
+said_of j l now d =
+    told_anew (is_opened_anew d l.held l.openings) (hear_over j l.held now d).saying
+
+-- a segment is heard by what is known; where it has no context by the connections held, or one that
+-- was opened anew refuses it, it is heard by those that are taken to have begun (own)
 abbrev pub listen_to : Judging → Listening → (now : ℕ) → Segment → Listened
 listen_to j l now d =
     let h = hear_over j l.held now d in
     let openings = openings_after d h.saying l.openings in
-    let guessed = glimpsed d h.saying l.openings l.guessed in
-    if is_unknown h.saying
+    let guessed = glimpsed d (said_of j l now d) l.openings l.guessed in
+    if is_unknown (said_of j l now d)
     then heard_twice h (hear_over j guessed now d) openings
     else heard_once h guessed openings
 

@@ -6,8 +6,8 @@ use Rattle.book_segments.specs.Segments.{Segment}
 use Rattle.book_endpoint.specs.States.{number_limit}
 use Rattle.book_cmd_check.specs.Captures.{Connection, connection_between, is_pass}
 use Rattle.book_sessions.specs.Glimpses.{glimpsed, is_unknown}
-use Rattle.book_sessions.specs.Laps.{Judging, heard_by, hear_over, is_searched, with_expected}
-use Rattle.book_sessions.specs.Listening.{Listening}
+use Rattle.book_sessions.specs.Laps.{Judging, heard_by, is_searched, with_expected}
+use Rattle.book_sessions.specs.Listening.{Listening, said_of}
 
 -- a segment passes the check by these connections where so many laps more are expected of its
 -- sender (RFC 5925, section 6.2)
@@ -34,9 +34,9 @@ pub record FoundAhead (j : Judging) (held : List Connection) (now : ℕ) (d : Se
   pub more : 1 ≤ laps
   pub in_range : ahead.connection.one.expected + laps * ring ≤ number_limit
 
--- a segment has no context by the connections that are held, and passes by those that are taken to
--- have begun (RFC 5925, section 5.2, and own)
+-- a segment has no context by the connections that are held, or one that was opened anew refuses
+-- its number or its MAC; and it passes by those that are taken to have begun (RFC 5925, section
+-- 5.2, and own)
 pub record PassesGuessed (j : Judging) (l : Listening) (now : ℕ) (d : Segment) : Type 0 where
-  pub unknown : is_unknown (hear_over j l.held now d).saying ≡ true
-  pub passes : PassesBehind j
-      (glimpsed d (hear_over j l.held now d).saying l.openings l.guessed) now d
+  pub unknown : is_unknown (said_of j l now d) ≡ true
+  pub passes : PassesBehind j (glimpsed d (said_of j l now d) l.openings l.guessed) now d

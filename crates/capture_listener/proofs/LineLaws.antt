@@ -1,5 +1,5 @@
 -- What a line of a checker says is what the definitions say of its segment.
-use Rattle.std.proofs.Common.{◌≡◌, true, false, not, refl, Ok, Option, Some, None}
+use Rattle.std.proofs.Common.{◌≡◌, Bool, true, false, not, refl, ap, ◌∙◌, sym, Ok, Err, Option, Some, None}
 use Rattle.std.specs.Prelude.{◌&&◌}
 use Rattle.book_segments.specs.Segments.{Segment, has, SYN}
 use Rattle.book_cmd_show.specs.declared.checksum.Checksum.{Checksum}
@@ -8,13 +8,13 @@ use Rattle.book_endpoint.specs.Verdicts.{Finding, Judgement}
 use Rattle.book_endpoint.specs.declared.verdict.Passed.{Passed}
 use Rattle.book_endpoint.specs.declared.verdict.Verdict.{Verdict}
 use Rattle.book_endpoint.specs.declared.verdict.Verdict.TheVariants.{Pass, NoAo, TwoAo, WithMd5, NoTuple, Expired, MacLength, NoContext, Range, BadMac}
-use Rattle.book_sessions.specs.Glimpses.{is_judged, is_refused, is_unknown}
+use Rattle.book_sessions.specs.Glimpses.{is_judged, is_refused, is_unknown, told_anew}
 use Rattle.book_sessions.specs.Laps.{is_searched}
 use Rattle.book_sessions.specs.Listening.{outcome_of, pass_of, unconfirmed_of}
 use Rattle.capture_check.specs.declared.answer.CheckLine.{CheckLine}
 use Rattle.capture_check.specs.declared.answer.CheckLine.TheVariants as line
 use Rattle.capture_check.specs.Answers.{IsFound, IsJudged, Says}
-use Rattle.capture_listener.specs.Lines.{is_readable, is_refusal, says_judged, says_refused, says_unknown, says_searched, by_verdict, by_unconfirmed, by_line, by_seen_line, pass_by_line, pass_by_verdict}
+use Rattle.capture_listener.specs.Lines.{is_readable, is_refusal, line_anew, verdict_anew, says_judged, says_refused, says_unknown, says_searched, by_verdict, by_unconfirmed, by_line, by_seen_line, pass_by_line, pass_by_verdict}
 
 -- a verdict is a refusal where its judgement is
 verdict_refused : (v : Verdict) (checksum : Checksum) (j : Judgement) → IsJudged v j → is_refusal v ≡ is_refused (Judged j checksum)
@@ -157,3 +157,52 @@ pass_told (line.Bad fault) s e = rw e refl
 pass_told line.UnknownNode s e = rw e refl
 pass_told (line.Verdict v checksum) s (j, e, t) = rw e (pass_judged v j checksum t)
 pass_told (line.Full checksum) s e = rw e refl
+
+-- ---- where the sockets of a segment were opened anew
+
+-- a verdict says anew what its judgement does
+verdict_told : (v : Verdict) (checksum : Checksum) (j : Judgement) → IsJudged v j → Says (line.Verdict (verdict_anew v) checksum) (told_anew true (Judged j checksum))
+verdict_told (Pass p) checksum j (entry, is, F) = (Ok entry, rw is refl, (entry, refl, F))
+verdict_told NoAo checksum j e = (Err NoAo, rw e refl, refl)
+verdict_told TwoAo checksum j e = (Err TwoAo, rw e refl, refl)
+verdict_told WithMd5 checksum j e = (Err WithMd5, rw e refl, refl)
+verdict_told NoTuple checksum j e = (Err NoTuple, rw e refl, refl)
+verdict_told Expired checksum j e = (Err Expired, rw e refl, refl)
+verdict_told MacLength checksum j e = (Err MacLength, rw e refl, refl)
+verdict_told NoContext checksum j e = (Err NoContext, rw e refl, refl)
+verdict_told Range checksum j e = (Err NoContext, rw e refl, refl)
+verdict_told BadMac checksum j e = (Err NoContext, rw e refl, refl)
+
+line_told : (anew : Bool) (l : CheckLine) (s : Saying) → Says l s → Says (line_anew anew l) (told_anew anew s)
+line_told false l s e = e
+line_told true (line.Bad fault) s e = rw e refl
+line_told true line.UnknownNode s e = rw e refl
+line_told true (line.Verdict v checksum) s (j, e, t) = rw e (verdict_told v checksum j t)
+line_told true (line.Full checksum) s e = rw e refl
+
+-- what is told anew of a line is what is told of what it says
+pub anew_told : (b anew : Bool) (l told : CheckLine) (s : Saying) → b ≡ anew → told ≡ line_anew b l → Says l s → Says told (told_anew anew s)
+anew_told b anew l told s e f h = rw (f, e) (line_told anew l s h)
+
+verdict_still : (v : Verdict) → is_refusal (verdict_anew v) ≡ is_refusal v
+verdict_still (Pass p) = refl
+verdict_still NoAo = refl
+verdict_still TwoAo = refl
+verdict_still WithMd5 = refl
+verdict_still NoTuple = refl
+verdict_still Expired = refl
+verdict_still MacLength = refl
+verdict_still NoContext = refl
+verdict_still Range = refl
+verdict_still BadMac = refl
+
+line_still : (anew : Bool) (l : CheckLine) → says_refused (line_anew anew l) ≡ says_refused l
+line_still false l = refl
+line_still true (line.Bad fault) = refl
+line_still true line.UnknownNode = refl
+line_still true (line.Verdict v checksum) = verdict_still v
+line_still true (line.Full checksum) = refl
+
+-- a line that is told anew as a refusal is one
+pub anew_refused : (anew : Bool) (l told : CheckLine) → told ≡ line_anew anew l → says_refused told ≡ true → says_refused l ≡ true
+anew_refused anew l told is refused = sym (ap says_refused is ∙ line_still anew l) ∙ refused

@@ -48,6 +48,17 @@ says_range _ = false
 abbrev pub says_searched : CheckLine → Bool
 says_searched l = says_bad_mac l || says_range l
 
+-- what a verdict says of a segment whose sockets were opened anew: no refusal for its numbers (own)
+abbrev pub verdict_anew : Verdict → Verdict
+verdict_anew verdicts.BadMac = verdicts.NoContext
+verdict_anew verdicts.Range = verdicts.NoContext
+verdict_anew v = v
+
+-- the same, of a line (own)
+abbrev pub line_anew : (anew : Bool) → CheckLine → CheckLine
+line_anew true (line.Verdict v checksum) = line.Verdict (verdict_anew v) checksum
+line_anew anew l = l
+
 -- what comes of a segment with this verdict (own)
 abbrev pub by_verdict : Verdict → SegmentOutcome
 by_verdict (verdicts.Pass p) = outcome.Verified

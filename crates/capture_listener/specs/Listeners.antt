@@ -1,12 +1,13 @@
 -- A listener: how it judges, and what it knows while a capture is heard (own).
 use Rattle.std.specs.Prelude.{◌≡◌, ℕ, ◌⊎◌, List, Ok, option_map}
+use Rattle.capture_listener.specs.declared.openings.KeptOpening.{KeptOpening}
 use Rattle.book_base.specs.declared.address.Pair.{Pair}
 use Rattle.book_segments.specs.Segments.{Segment}
 use Rattle.book_cmd_check.specs.Captures.{Connection}
 use Rattle.capture_listener.specs.declared.outcomes.HeardSegment.{HeardSegment}
 use Rattle.book_sessions.specs.Glimpses.{Opening, glimpsed, openings_after}
 use Rattle.book_sessions.specs.Laps.{Judging, hear_over}
-use Rattle.book_sessions.specs.Listening.{Listened, Listening}
+use Rattle.book_sessions.specs.Listening.{Listened, Listening, said_of}
 use Rattle.book_sessions.specs.Sessions.{seen_pass}
 use Rattle.capture_check.specs.declared.flows.Flows.{Flows}
 use Rattle.capture_check.specs.Checkers.{StandsFor}
@@ -18,7 +19,7 @@ pub record Hearing : Type 0 where
   pub judging : Judging
   pub held : List (Pair × Flows)
   pub guessed : List (Pair × Flows)
-  pub openings : List (Pair × ℕ)
+  pub openings : List (Pair × KeptOpening)
 
 -- the listener knows what is known (own)
 pub record Knows (l : Hearing) (k : Listening) : Type 0 where
@@ -35,7 +36,7 @@ pub record Listens (after : Hearing) (told : HeardSegment) (d : Segment) (l : Li
 
 -- what is taken to have begun once a segment was seen (own)
 abbrev pub seen_to_begin : Judging → Listening → ℕ → Segment → List Connection
-seen_to_begin j k now d = glimpsed d (hear_over j k.held now d).saying k.openings k.guessed
+seen_to_begin j k now d = glimpsed d (said_of j k now d) k.openings k.guessed
 
 -- the SYNs without ACK that were seen, once a segment was (own)
 abbrev pub seen_to_open : Judging → Listening → ℕ → Segment → List Opening

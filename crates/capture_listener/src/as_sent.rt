@@ -47,9 +47,10 @@ fn has_wrong_header(bytes: &[u8]) -> bool
 }
 
 // The big-endian number of two bytes.
-fn two_at(bytes: &[u8], at: usize) -> u64
+pub(crate) fn two_at(bytes: &[u8], at: usize) -> u64
     requires { at + 1 < length bytes.now }
-    ensures { result ≡ two_octets_at bytes.now at }
+    ensures value { result ≡ two_octets_at bytes.now at }
+    ensures small { result < 65536 }
 {
     u64::from(bytes[at]) * 256 + u64::from(bytes[at + 1])
 }

@@ -1,9 +1,9 @@
 //! What a segment tells of initial sequence numbers where no handshake passed.
 ghost use Rattle.std.specs.Prelude.{◌≡◌, false, true, List, OnErr, OnOk};
 ghost use Rattle.book_segments.specs.Segments.{has, ACK, SYN};
-ghost use Rattle.book_cmd_check.specs.Captures.{Connection, Saying};
+ghost use Rattle.book_cmd_check.specs.Captures.{Connection, Saying, acknowledged_isn};
 ghost use Rattle.book_cmd_check.specs.Handshakes.{and_given};
-ghost use Rattle.book_sessions.specs.Glimpses.{Opening, glimpsed, openings_after};
+ghost use Rattle.book_sessions.specs.Glimpses.{Opening, answered_by, glimpsed, openings_after};
 ghost use Rattle.capture_check.specs.Answers.{Says};
 ghost use Rattle.capture_check.specs.Checkers.{IsSound, StandsFor};
 ghost use Rattle.capture_listener.specs.Begun.{and_begun, completing};
@@ -11,7 +11,7 @@ ghost use Rattle.capture_listener.specs.Lines.{says_refused};
 ghost use Rattle.capture_listener.specs.Openings.{KeepsOpenings};
 
 use crate::lines::{is_judged, is_refused, is_unknown};
-use crate::openings::Openings;
+use crate::openings::{KeptOpening, Openings};
 use book_cmd_check::GivenIsns;
 use capture_check::{CheckLine, Connections, isns_told_by};
 use key_table::Tables;
@@ -98,14 +98,36 @@ pub(crate) fn glimpse(
     if !is_unknown(line) {
         return Ok(());
     }
-    match openings.isn(datagram.source(), datagram.destination()) {
+    match openings.get(datagram.source(), datagram.destination()) {
         None => Ok(()),
-        Some(isn) => begin_anew(guesses, alloc, tables, completing(datagram, isn)),
+        Some(opening) => begin_anew(guesses, alloc, tables, completing(datagram, opening.isn)),
     }
 }
 
-/// Keeps what a SYN without ACK opens, with this line. Memory may run out only for such a SYN; then all
-/// is as it was.
+// The initial sequence number that a SYN with ACK acknowledges.
+fn acknowledged_isn(datagram: &Datagram<'_>) -> u32
+    ensures { result ≡ acknowledged_isn datagram.now }
+{
+    datagram.acknowledgement().wrapping_sub(1)
+}
+
+/// Keeps no opening but the one that an answer acknowledges.
+fn note_answer(openings: &mut Openings, datagram: &Datagram<'_>)
+    ensures { (opened : List Opening) → KeepsOpenings openings.old.isns.entries opened → KeepsOpenings openings.new.isns.entries (answered_by datagram.now opened) }
+{
+    let isn = acknowledged_isn(datagram);
+    match openings.get(datagram.destination(), datagram.source()) {
+        None => {}
+        Some(opening) => {
+            if opening.isn != isn {
+                openings.drop_way(datagram.destination(), datagram.source());
+            }
+        }
+    }
+}
+
+/// Keeps what a SYN without ACK opens, with this line, and lets an opening go that a SYN with ACK doesn't answer.
+/// Memory may run out only for a SYN without ACK; then all is as it was.
 pub(crate) fn note_opening(
     openings: &mut Openings,
     datagram: &Datagram<'_>,
@@ -123,13 +145,14 @@ pub(crate) fn note_opening(
         return Ok(());
     }
     if datagram.has(Flag::Ack) {
+        note_answer(openings, datagram);
         return Ok(());
     }
-    match openings.put(
-        datagram.source(),
-        datagram.destination(),
-        datagram.sequence(),
-    ) {
+    let opening = KeptOpening {
+        isn: datagram.sequence(),
+        passes: line.is_pass(),
+    };
+    match openings.put(datagram.source(), datagram.destination(), opening) {
         Ok(()) => Ok(()),
         Err(error) => Err(error),
     }

@@ -4,6 +4,7 @@
 //! section 6.2).
 #![tactic(auto)]
 
+mod anew;
 mod as_sent;
 mod glimpses;
 mod ids;

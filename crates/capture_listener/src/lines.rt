@@ -1,6 +1,6 @@
 //! What a line of a checker says.
 ghost use Rattle.std.specs.Prelude.{◌≡◌};
-ghost use Rattle.capture_listener.specs.Lines.{is_refusal, says_bad_mac, says_judged, says_range, says_refused, says_searched, says_unknown};
+ghost use Rattle.capture_listener.specs.Lines.{is_refusal, line_anew, verdict_anew, says_bad_mac, says_judged, says_range, says_refused, says_searched, says_unknown};
 
 use book_endpoint::Verdict;
 use capture_check::CheckLine;
@@ -49,4 +49,30 @@ pub(crate) fn is_searched(line: &CheckLine) -> bool
     ensures { result ≡ says_searched line.now }
 {
     is_bad_mac(line) || is_range(line)
+}
+
+fn verdict_anew(verdict: Verdict) -> Verdict
+    ensures { result ≡ verdict_anew verdict }
+{
+    match verdict {
+        Verdict::BadMac => Verdict::NoContext,
+        Verdict::Range => Verdict::NoContext,
+        other => other,
+    }
+}
+
+/// What a line says of a segment, where the connection between its sockets was opened anew, or wasn't: then a refusal
+/// for its numbers says as much as no context.
+pub(crate) fn told_anew(anew: bool, line: CheckLine) -> CheckLine
+    ensures { result ≡ line_anew anew line }
+{
+    if !anew {
+        return line;
+    }
+    match line {
+        CheckLine::Verdict(verdict, checksum) => {
+            CheckLine::Verdict(verdict_anew(verdict), checksum)
+        }
+        other => other,
+    }
 }

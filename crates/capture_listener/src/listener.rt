@@ -5,9 +5,10 @@ ghost use Rattle.book_cmd_check.specs.Handshakes.{and_given, has_room};
 ghost use Rattle.book_sessions.specs.Listening.{Listening, listen, listening_behind};
 ghost use Rattle.capture_listener.specs.Listeners.{Knows, KnowsStill, Listens};
 
+use crate::anew::is_opened_anew;
 use crate::glimpses::{glimpse, note_opening};
 use crate::laps::hear_over;
-use crate::lines::is_unknown;
+use crate::lines::{is_unknown, told_anew};
 use crate::openings::Openings;
 use crate::outcomes::{HeardSegment, by_line, by_seen_line};
 use crate::passes::seen_pass;
@@ -110,6 +111,7 @@ impl Listener {
         ensures still { (k : Listening) → Knows self.old k → OnErr result (KnowsStill self.new self.old.judging k time datagram.now) }
         ensures judging { self.new.judging ≡ self.old.judging }
     {
+        let anew = is_opened_anew(&self.held, &self.openings, datagram);
         let line = hear_over(
             &mut self.held,
             alloc,
@@ -119,16 +121,17 @@ impl Listener {
             datagram,
             steps,
         )?;
+        let told = told_anew(anew, line);
         glimpse(
             &mut self.guesses,
             alloc,
             &self.tables,
             &self.openings,
             datagram,
-            &line,
+            &told,
         )?;
         note_opening(&mut self.openings, datagram, &line)?;
-        if !is_unknown(&line) {
+        if !is_unknown(&told) {
             return Ok(HeardSegment {
                 outcome: by_line(&line),
                 pass: seen_pass(&self.held, datagram, &line),

@@ -1,14 +1,13 @@
 -- A list of uses grown by one segment that shows nothing frees no row.
-use Rattle.std.proofs.Common.{◌≡◌, ◌≤◌, ◌<◌, ℕ, ◌+◌, ◌&&◌, ◌||◌, not, max, min, nat_lt, nat_le, Bool, true, false, List, [], ◌∷◌, Option, Some, None, refl, sym, ap, ◌∙◌, arith, if◌then◌else◌}
+use Rattle.std.proofs.Common.{◌≡◌, ◌≤◌, ℕ, ◌+◌, ◌&&◌, ◌||◌, not, nat_lt, nat_le, Bool, true, false, List, [], ◌∷◌, Option, Some, None, refl, sym, ap, ◌∙◌, arith, if◌then◌else◌}
 use Rattle.std.proofs.lemmas.Bool.Decides.{nat_tests}
 use Rattle.std.specs.Prelude.{filter, cond}
-use Rattle.std.specs.List.{AllByRecursion, list_all, list_any}
+use Rattle.std.specs.List.{list_all, list_any}
 use Rattle.book_base.specs.declared.address.Address.{Address}
 use Rattle.book_base.specs.declared.address.Pair.{Pair}
 use Rattle.book_base.specs.declared.address.Socket.{Socket}
 use Rattle.book_keys.specs.Rows.{Row, Table}
 use Rattle.book_keys.specs.declared.lifetime.Lifetime.{Lifetime}
-use Rattle.book_sessions.specs.declared.retiring.MayGo.{MayGo}
 use Rattle.book_sessions.specs.declared.retiring.MayGo.TheVariants as go
 use Rattle.book_sessions.specs.declared.uses.KeyUse.{KeyUse}
 use Rattle.book_sessions.specs.declared.uses.SeenSegment.{SeenSegment}
@@ -16,8 +15,8 @@ use Rattle.book_sessions.specs.Counts.{no_signs}
 use Rattle.book_sessions.specs.OutcomeTexts.{is_verified}
 use Rattle.book_sessions.specs.declared.retiring.Ending.{Ending}
 use Rattle.book_sessions.specs.declared.retiring.Wanting.{Wanting}
-use Rattle.book_sessions.specs.Retiring.{Evidence, all_left, all_without, and_ending, asks_for_row, between, both_without, came_under, carries_row, does_without, ending_by, evidence_of, goes_from, is_at_row, is_counted, is_elsewhere, is_ended, is_dispensable, is_followed, is_for, is_id, is_in_use, is_live, is_of_peer, is_onward, is_outlived, is_return, is_sent_anew, is_taken_anew, leaves_use, may_be_sent, may_be_taken, may_go, sees_peers, sent_by, sent_to, shows_peer, wanting_by, wants_row, with_mark}
-use Rattle.book_sessions.specs.Sessions.{SessionTable, and_segment, first_use, is_use_of, session_of, signs_of, used_again, with_use}
+use Rattle.book_sessions.specs.Retiring.{Evidence, all_left, all_without, and_ending, asks_for_row, between, both_without, came_under, carries_row, does_without, ending_by, evidence_of, goes_from, is_at_row, is_counted, is_elsewhere, is_dispensable, is_followed, is_for, is_id, is_in_use, is_live, is_of_peer, is_onward, is_outlived, is_return, is_sent_anew, is_taken_anew, leaves_use, may_be_sent, may_be_taken, may_go, sees_peers, sent_by, sent_to, shows_peer, wanting_by, wants_row, with_mark}
+use Rattle.book_sessions.specs.Sessions.{SessionTable, and_segment, first_use, is_use_of, signs_of, used_again, with_use}
 use Rattle.law_sessions.specs.Old.{IsLast, evidence_at}
 
 -- ---- tests

@@ -1,5 +1,5 @@
 -- What is old shows nothing.
-use Rattle.std.proofs.Common.{◌≡◌, ◌≤◌, ◌<◌, ℕ, ◌&&◌, not, nat_lt, Bool, true, false, List, Option, Some, None, refl, sym, ap, ◌∙◌, arith}
+use Rattle.std.proofs.Common.{◌≡◌, ◌≤◌, ℕ, ◌&&◌, not, nat_lt, Bool, true, false, List, Option, Some, None, refl, sym, ◌∙◌, arith}
 use Rattle.std.proofs.lemmas.Bool.Decides.{nat_tests}
 use Rattle.book_sessions.specs.declared.uses.KeyUse.{KeyUse}
 use Rattle.book_sessions.specs.declared.uses.SeenBits.{SeenBits}
@@ -7,7 +7,7 @@ use Rattle.book_sessions.specs.declared.uses.SeenPass.{SeenPass}
 use Rattle.book_sessions.specs.declared.uses.SeenSegment.{SeenSegment}
 use Rattle.book_sessions.specs.declared.uses.Signs.{Signs}
 use Rattle.book_sessions.specs.Counts.{no_signs}
-use Rattle.book_sessions.specs.Sessions.{goes_past, if_passed, reached_before, resets_at, signs_at, signs_of}
+use Rattle.book_sessions.specs.Sessions.{goes_past, if_passed, reached_before, resets_at, signs_of}
 use Rattle.law_sessions.specs.Old.{IsOld, Refused, Syn, AckAlone, Copy}
 
 and_false : (b : Bool) → (b && false) ≡ false

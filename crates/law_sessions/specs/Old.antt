@@ -1,6 +1,6 @@
 -- Segments that show nothing new of their connection (own). Its tops: `IsOld` and `IsLast`.
 use Rattle.std.specs.Prelude.{◌≡◌, ◌≤◌, ℕ, true, false, List, Some, None}
-use Rattle.std.specs.List.{AllByRecursion, Contains}
+use Rattle.std.specs.List.{AllByRecursion}
 use Rattle.book_sessions.specs.declared.uses.KeyUse.{KeyUse}
 use Rattle.book_sessions.specs.declared.uses.SeenPass.{SeenPass}
 use Rattle.book_sessions.specs.declared.uses.SeenSegment.{SeenSegment}

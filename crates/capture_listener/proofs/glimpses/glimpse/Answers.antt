@@ -11,5 +11,5 @@ returns-in-Some-clause-stands c = λ said opened guessed says keeps S.
     let syn = sym c.has-2.ensures ∙ c.if-has.false in
     let unknown = sym (unknown_told c.args.line.now said says) ∙ (sym c.is_unknown.ensures ∙ c.if-not-is_unknown.false) in
     let kept = sym (keeps.same c.args.datagram.now.source c.args.datagram.now.destination) ∙ rw (← c.source.ensures.value, ← c.destination.ensures.value) (sym c.in-Some.ensures) in
-    let is = completes c.args.datagram.now said opened guessed c.in-Some.isn ack syn unknown kept in
+    let is = completes c.args.datagram.now said opened guessed c.in-Some.opening ack syn unknown kept in
     subst (λ (cs : List Connection). OnOk c.begin_anew.result (StandsFor c.begin_anew.new.guesses cs)) (sym is) (rw c.completing.ensures at (c.begin_anew.ensures.stands guessed S))
