@@ -5,7 +5,7 @@ use Rattle.book_draw_session.specs.declared.rung.SessionEnds.{SessionEnds}
 use Rattle.book_draw_session.specs.declared.rung.SessionRung.{SessionRung}
 use Rattle.book_draw_session.specs.Ladders.{ends_text, ladder_between, session_rung_text, session_ladder}
 use Rattle.book_draw_session.specs.Rungs.{rungs_between, rungs_of_session, session_at, sessions_drawn}
-use Rattle.book_draw_session_svg.specs.SessionPictures.{rung_svg, session_front_svg, picture_between, session_picture, rows_from, rung_in_row, rung_of_row, session_rows, session_svg}
+use Rattle.book_draw_session_svg.specs.SessionPictures.{keys_drawn, rung_svg, session_front_svg, picture_between, session_picture, rows_from, rung_in_row, rung_of_row, session_rows, session_svg}
 
 rungs_back : (row : ℕ) (rs : List SessionRung) → map rung_of_row (rows_from row rs) ≡ rs
 rungs_back row [] = refl
@@ -24,7 +24,7 @@ pub each_row : (rs : List SessionRung) (i : ℕ) → slice_get (session_rows rs)
 each_row rs i = let same : 0 + i ≡ i = omega arith in rw same at (row_from 0 rs i)
 
 pub whole_picture : (number : ℕ) (rs : List SessionRung) (e : SessionEnds) → session_at number (sessions_drawn rs) ≡ Some e
-    → session_svg number rs ≡ session_front_svg e (length (rungs_of_session number rs)) ++ (flat_map (rung_svg e) (session_rows (rungs_of_session number rs)) ++ codes "</svg>\n")
+    → session_svg number rs ≡ session_front_svg e (keys_drawn (rungs_of_session number rs)) (length (rungs_of_session number rs)) ++ (flat_map (rung_svg e) (session_rows (rungs_of_session number rs)) ++ codes "</svg>\n")
 unfolding session_picture
 whole_picture number rs e is = ap (λ o. picture_between o (rungs_of_session number rs)) is
 

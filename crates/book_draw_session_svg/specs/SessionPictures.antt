@@ -2,7 +2,9 @@
 -- segment with an arrow from the end that sends to the one that receives. Our own format. Its tops
 -- are `session_svg` and `session_as`.
 use Rattle.std.specs.Prelude.{ℕ, ◌+◌, ◌*◌, ◌/◌, ◌%◌, List, [], ◌∷◌, ◌++◌, length, codes, decimal}
-use Rattle.std.specs.Prelude.{true, false, flat_map, Option, Some, None, option_map}
+use Rattle.std.specs.Prelude.{true, false, nat_lt, flat_map, Option, Some, None, option_map}
+use Rattle.std.specs.Prelude.{if◌then◌else◌}
+use Rattle.std.specs.List.{list_any}
 use Rattle.book_base.specs.declared.end.End.{End}
 use Rattle.book_base.specs.declared.end.End.TheVariants.{A, B}
 use Rattle.book_lines.specs.Texts.{spaced}
@@ -10,6 +12,7 @@ use Rattle.book_link.specs.Worlds.{same_end, other}
 use Rattle.book_scope_texts.specs.Instants.{instant_text}
 use Rattle.book_sessions.specs.declared.outcome.SegmentOutcome.{SegmentOutcome}
 use Rattle.book_sessions.specs.declared.outcome.SegmentOutcome.TheVariants as outcome
+use Rattle.book_sessions.specs.Sessions.{same_id}
 use Rattle.book_draw_session.specs.declared.rung.SessionEnds.{SessionEnds}
 use Rattle.book_draw_session.specs.declared.rung.SessionRung.{SessionRung}
 use Rattle.book_draw_session.specs.Ladders.{end_name, said_texts, reached_end, rung_label}
@@ -21,15 +24,15 @@ use Rattle.book_svg.specs.Tags.{colour_text, head_svg, line_tag, titled_tag, wor
 
 -- the height of a row, from above (own)
 abbrev pub rung_height : (row : ℕ) → ℕ
-rung_height row = 24 * row + 92
+rung_height row = 24 * row + 116
 
 -- the height of the words on the arrow of a row (own)
 abbrev pub rung_label_height : (row : ℕ) → ℕ
-rung_label_height row = 24 * row + 87
+rung_label_height row = 24 * row + 111
 
 -- the height of the words beside a row (own)
 abbrev pub rung_margin_height : (row : ℕ) → ℕ
-rung_margin_height row = 24 * row + 96
+rung_margin_height row = 24 * row + 120
 
 -- the column of an end's stroke (own)
 abbrev pub upright_column : End → ℕ
@@ -96,21 +99,27 @@ abbrev pub rung_margin_svg : End → (row : ℕ) → (words : List ℕ) → List
 rung_margin_svg e row words =
     words_tag (record { x = rung_margin_column e; y = rung_margin_height row }) (same_end e A) words
 
+-- the number of a packet at the left of its row (own)
+abbrev pub rung_packet_svg : (row packet : ℕ) → List ℕ
+rung_packet_svg row packet =
+    words_tag (record { x = 8; y = rung_margin_height row }) false (decimal packet)
+
 -- what is drawn of a segment that comes to this end: its arrow with its words, what is said of it,
--- and when it was seen, beside the end that sends (own)
+-- when it was seen, beside the end that sends, and the number of its packet (own)
 unfoldable pub rung_drawing_svg : End → RungInRow → List ℕ
 rung_drawing_svg at p =
     rung_arrow_svg at p.row p.rung.outcome
     ++ (rung_label_svg (other at) p.row (rung_label p.rung)
     ++ (rung_margin_svg at p.row (spaced (said_texts p.rung.outcome))
-    ++ rung_margin_svg (other at) p.row (time_margin p.rung.time)))
+    ++ (rung_margin_svg (other at) p.row (time_margin p.rung.time)
+    ++ rung_packet_svg p.row p.rung.packet)))
 
--- the numbers of a segment: how many nanoseconds of its second had passed, its sequence number, and
--- what its acknowledgement field says (RFC 9293, section 3.1, own)
+-- the numbers of a segment: that of its packet, how many nanoseconds of its second had passed, its
+-- sequence number, and what its acknowledgement field says (RFC 9293, section 3.1, own)
 unfoldable pub rung_numbers : SessionRung → List ℕ
 rung_numbers r =
-    spaced (codes "ns" ∷ decimal (r.time % 1000000000) ∷ codes "seq" ∷ decimal r.sequence
-    ∷ codes "ack" ∷ decimal r.acknowledgement ∷ [])
+    spaced (codes "packet" ∷ decimal r.packet ∷ codes "ns" ∷ decimal (r.time % 1000000000)
+    ∷ codes "seq" ∷ decimal r.sequence ∷ codes "ack" ∷ decimal r.acknowledgement ∷ [])
 
 -- the title of a segment: when it was seen, its numbers, what is on its arrow, and what is said of
 -- it (own)
@@ -119,10 +128,14 @@ rung_title r =
     instant_text (r.time / 1000000000)
     ++ (rung_numbers r ++ (rung_label r ++ spaced (said_texts r.outcome)))
 
+-- the KeyID of a segment, if it has one (RFC 5925, section 2.2)
+abbrev pub key_of : SessionRung → Option ℕ
+key_of r = option_map (λ ids. ids.key_id) r.ids
+
 -- the element of a segment between these ends, in the colour of its KeyID (own)
 unfoldable pub rung_svg : SessionEnds → RungInRow → List ℕ
 rung_svg e p =
-    titled_tag (codes "segment") (colour_text (option_map (λ ids. ids.key_id) p.rung.ids))
+    titled_tag (codes "segment") (colour_text (key_of p.rung))
     (rung_title p.rung) (rung_drawing_svg (reached_end e p.rung) p)
 
 -- the tip of an arrow (SVG 2, section 13.7, own)
@@ -146,10 +159,43 @@ outcome_samples_svg =
     ++ (outcome_sample_svg 170 outcome.Unconfirmed (codes "unconfirmed")
     ++ outcome_sample_svg 340 outcome.NoNode (codes "refused, or not judged"))
 
+-- the keys that are known, after a segment (own)
+abbrev pub and_key : List (Option ℕ) → SessionRung → List (Option ℕ)
+and_key known r =
+    if list_any (same_id (key_of r)) known then known else known ++ key_of r ∷ []
+
+-- the keys that are known, after segments (own)
+abbrev pub keys_after : List (Option ℕ) → List SessionRung → List (Option ℕ)
+keys_after known [] = known
+keys_after known (r ∷ rs) = keys_after (and_key known r) rs
+
+-- the keys of segments, in the order of their first ones; none is that of a segment without one (own)
+abbrev pub keys_drawn : List SessionRung → List (Option ℕ)
+keys_drawn rs = keys_after [] rs
+
+-- the name of a key (own)
+abbrev pub key_name : Option ℕ → List ℕ
+key_name None = codes "no key"
+key_name (Some id) = codes "key " ++ decimal id
+
+-- the sample of a key's colour, in this place, with its name (own)
+unfoldable pub key_sample_svg : (place : ℕ) → Option ℕ → List ℕ
+key_sample_svg place key =
+    line_tag (record { x = 96 * place + 20; y = 44 }) (record { x = 96 * place + 50; y = 44 })
+    (codes " stroke=\"" ++ (colour_text key ++ codes "\""))
+    ++ words_tag (record { x = 96 * place + 56; y = 48 }) false (key_name key)
+
+-- the samples of keys, the first one in this place; eight stand side by side, and more are left out
+-- (own)
+abbrev pub key_samples_from : (place : ℕ) → List (Option ℕ) → List ℕ
+key_samples_from place [] = []
+key_samples_from place (key ∷ keys) =
+    if nat_lt place 8 then key_sample_svg place key ++ key_samples_from (place + 1) keys else []
+
 -- the upright stroke of an end, of this height (own)
 abbrev pub session_upright_svg : (height : ℕ) → End → List ℕ
 session_upright_svg height e =
-    line_tag (record { x = upright_column e; y = 70 }) (record { x = upright_column e; y = height })
+    line_tag (record { x = upright_column e; y = 94 }) (record { x = upright_column e; y = height })
     (codes " stroke=\"#000\"")
 
 -- the two ends, of this height, with their names above them (own)
@@ -157,19 +203,20 @@ unfoldable pub session_uprights_svg : SessionEnds → (height : ℕ) → List �
 session_uprights_svg e height =
     session_upright_svg height A
     ++ (session_upright_svg height B
-    ++ (words_tag (record { x = 200; y = 48 }) false (end_name e.left)
-    ++ words_tag (record { x = 600; y = 64 }) true (end_name e.right)))
+    ++ (words_tag (record { x = 200; y = 72 }) false (end_name e.left)
+    ++ words_tag (record { x = 600; y = 88 }) true (end_name e.right)))
 
--- what stands in front of the elements of so many segments (own)
-unfoldable pub session_front_svg : SessionEnds → (count : ℕ) → List ℕ
-session_front_svg e count =
-    head_svg (rung_height count)
-    ++ (arrow_tip_svg ++ (outcome_samples_svg ++ session_uprights_svg e (rung_height count)))
+-- what stands in front of the elements of so many segments with these keys (own)
+unfoldable pub session_front_svg : SessionEnds → List (Option ℕ) → (count : ℕ) → List ℕ
+session_front_svg e keys count =
+    head_svg (rung_height count) ++ (arrow_tip_svg ++ (outcome_samples_svg
+    ++ (key_samples_from 0 keys ++ session_uprights_svg e (rung_height count))))
 
 -- the picture of the segments of a session between these ends (own)
 unfoldable pub session_picture : SessionEnds → List SessionRung → List ℕ
 session_picture e rs =
-    session_front_svg e (length rs) ++ (flat_map (rung_svg e) (session_rows rs) ++ codes "</svg>\n")
+    session_front_svg e (keys_drawn rs) (length rs)
+    ++ (flat_map (rung_svg e) (session_rows rs) ++ codes "</svg>\n")
 
 -- the same, where there is a session (own)
 abbrev pub picture_between : Option SessionEnds → List SessionRung → List ℕ

@@ -4,7 +4,7 @@ ghost use Rattle.book_draw_session.specs.Ladders.{ends_text, session_rung_text, 
 ghost use Rattle.book_draw_session.specs.Rungs.{rungs_of_session, session_at, sessions_drawn};
 ghost use Rattle.book_draw_session.specs.declared.rung.SessionEnds.{SessionEnds as Ends};
 ghost use Rattle.book_draw_session.specs.declared.rung.SessionRung.{SessionRung as Segment};
-ghost use Rattle.book_draw_session_svg.specs.SessionPictures.{rung_svg, session_front_svg, rung_in_row, rung_of_row, session_rows, session_svg};
+ghost use Rattle.book_draw_session_svg.specs.SessionPictures.{keys_drawn, rung_svg, session_front_svg, rung_in_row, rung_of_row, session_rows, session_svg};
 
 /// A picture has an element for each segment of the session, in their order, and no other: the one of place
 /// `i` stands in row `i`. They are the segments of which the text has its lines.
@@ -12,7 +12,7 @@ pub fn elements_are_those_of_the_session()
     ensures rungs { (rs : List Segment) → map rung_of_row (session_rows rs) ≡ rs }
     ensures rows { (rs : List Segment) (i : ℕ) → slice_get (session_rows rs) i ≡ option_map (rung_in_row i) (slice_get rs i) }
     ensures picture { (number : ℕ) (rs : List Segment) (e : Ends) → session_at number (sessions_drawn rs) ≡ Some e
-        → session_svg number rs ≡ session_front_svg e (length (rungs_of_session number rs)) ++ (flat_map (rung_svg e) (session_rows (rungs_of_session number rs)) ++ codes "</svg>\n") }
+        → session_svg number rs ≡ session_front_svg e (keys_drawn (rungs_of_session number rs)) (length (rungs_of_session number rs)) ++ (flat_map (rung_svg e) (session_rows (rungs_of_session number rs)) ++ codes "</svg>\n") }
     ensures text { (number : ℕ) (rs : List Segment) (e : Ends) → session_at number (sessions_drawn rs) ≡ Some e
         → session_ladder number rs ≡ ends_text e ++ flat_map (session_rung_text e) (rungs_of_session number rs) }
 {}

@@ -4,6 +4,7 @@
 
 mod elements;
 mod heads;
+mod keys;
 mod lines;
 mod picture;
 

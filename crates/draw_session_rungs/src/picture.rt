@@ -4,6 +4,7 @@ ghost use Rattle.book_draw_session_svg.specs.SessionPictures.{rung_svg, session_
 
 use crate::elements::push_element;
 use crate::heads::push_front;
+use crate::keys::keys_drawn;
 use book_draw_session::{SessionEnds, SessionRung};
 use std::alloc::{AllocError, Global};
 
@@ -38,8 +39,9 @@ pub fn print_session_svg(
     if rungs.len() > MOST_ROWS {
         return Err(AllocError);
     }
+    let keys = keys_drawn(alloc, rungs)?;
     let mut out = Vec::new(alloc);
-    push_front(&mut out, ends, rungs.len() as u32)?;
+    push_front(&mut out, ends, keys.as_slice(), rungs.len() as u32)?;
     push_elements(&mut out, ends, rungs)?;
     out.extend_from_slice(b"</svg>\n")?;
     Ok(out)
