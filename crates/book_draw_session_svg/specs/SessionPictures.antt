@@ -1,6 +1,6 @@
 -- The picture of a session in SVG, 800 wide: its two ends as upright strokes, a row of 24 for each
--- segment with an arrow from the end that sends to the one that receives. Our own format. Its tops
--- are `session_svg` and `session_as`.
+-- line, that of a segment with an arrow from the end that sends to the one that receives. Our own
+-- format. Its tops are `session_svg` and `session_as`.
 use Rattle.std.specs.Prelude.{ℕ, ◌+◌, ◌*◌, ◌/◌, ◌%◌, List, [], ◌∷◌, ◌++◌, length, codes, decimal}
 use Rattle.std.specs.Prelude.{true, false, nat_lt, flat_map, Option, Some, None, option_map}
 use Rattle.std.specs.Prelude.{if◌then◌else◌}
@@ -13,8 +13,12 @@ use Rattle.book_scope_texts.specs.Instants.{instant_text}
 use Rattle.book_sessions.specs.declared.outcome.SegmentOutcome.{SegmentOutcome}
 use Rattle.book_sessions.specs.declared.outcome.SegmentOutcome.TheVariants as outcome
 use Rattle.book_sessions.specs.Sessions.{same_id}
+use Rattle.book_draw_session.specs.declared.fold.RungRun.{RungRun}
+use Rattle.book_draw_session.specs.declared.fold.SessionLine.{SessionLine}
+use Rattle.book_draw_session.specs.declared.fold.SessionLine.TheVariants.{Whole, More}
 use Rattle.book_draw_session.specs.declared.rung.SessionEnds.{SessionEnds}
 use Rattle.book_draw_session.specs.declared.rung.SessionRung.{SessionRung}
+use Rattle.book_draw_session.specs.Folds.{run_label, session_lines}
 use Rattle.book_draw_session.specs.Ladders.{end_name, said_texts, reached_end, rung_label}
 use Rattle.book_draw_session.specs.Ladders.{session_ladder, time_margin}
 use Rattle.book_draw_session.specs.Rungs.{rungs_of_session, session_at, sessions_drawn}
@@ -68,18 +72,27 @@ pub record RungInRow : Type 0 where
 abbrev pub rung_in_row : (row : ℕ) → SessionRung → RungInRow
 rung_in_row row r = record { row = row; rung = r }
 
--- segments in their rows, the first one in this row (own)
-abbrev pub rows_from : (row : ℕ) → List SessionRung → List RungInRow
+-- a line in its row, from 0 (own)
+pub record LineInRow : Type 0 where
+  pub row : ℕ
+  pub line : SessionLine
+
+-- a line in this row (own)
+abbrev pub line_in_row : (row : ℕ) → SessionLine → LineInRow
+line_in_row row l = record { row = row; line = l }
+
+-- lines in their rows, the first one in this row (own)
+abbrev pub rows_from : (row : ℕ) → List SessionLine → List LineInRow
 rows_from row [] = []
-rows_from row (r ∷ rs) = rung_in_row row r ∷ rows_from (row + 1) rs
+rows_from row (l ∷ ls) = line_in_row row l ∷ rows_from (row + 1) ls
 
--- segments in their rows (own)
-abbrev pub session_rows : List SessionRung → List RungInRow
-session_rows rs = rows_from 0 rs
+-- lines in their rows (own)
+abbrev pub session_rows : List SessionLine → List LineInRow
+session_rows ls = rows_from 0 ls
 
--- the segment of a row (own)
-abbrev pub rung_of_row : RungInRow → SessionRung
-rung_of_row p = p.rung
+-- the line of a row (own)
+abbrev pub line_of_row : LineInRow → SessionLine
+line_of_row p = p.line
 
 -- the arrow of a row to this end (own)
 abbrev pub rung_arrow_svg : End → (row : ℕ) → SegmentOutcome → List ℕ
@@ -137,6 +150,35 @@ unfoldable pub rung_svg : SessionEnds → RungInRow → List ℕ
 rung_svg e p =
     titled_tag (codes "segment") (colour_text (key_of p.rung))
     (rung_title p.rung) (rung_drawing_svg (reached_end e p.rung) p)
+
+-- the title of a run: its first packet and its last one, when they were seen, and its words (own)
+unfoldable pub run_title : RungRun → List ℕ
+run_title m =
+    (codes "packets " ++ decimal m.first.packet) ++ ((codes " to " ++ decimal m.last.packet)
+    ++ (time_margin m.first.time ++ (codes " to" ++ (time_margin m.last.time ++ run_label m))))
+
+-- what is drawn of a run in its row: its words between the ends, when its first segment was seen, when
+-- its last one was, with the number of its packet, and the number of the first packet (own)
+unfoldable pub run_drawing_svg : (row : ℕ) → RungRun → List ℕ
+run_drawing_svg row m =
+    words_tag (record { x = rung_label_column A; y = rung_margin_height row }) false (run_label m)
+    ++ (rung_margin_svg A row (time_margin m.first.time)
+    ++ (rung_margin_svg B row (time_margin m.last.time ++ (32 ∷ decimal m.last.packet))
+    ++ rung_packet_svg row m.first.packet))
+
+-- the element of a run in its row (own)
+abbrev pub run_svg : (row : ℕ) → RungRun → List ℕ
+run_svg row m =
+    titled_tag (codes "more") (colour_text None) (run_title m) (run_drawing_svg row m)
+
+-- the element of a line between these ends in its row (own)
+abbrev pub line_element : SessionEnds → (row : ℕ) → SessionLine → List ℕ
+line_element e row (Whole r) = rung_svg e (rung_in_row row r)
+line_element e row (More m) = run_svg row m
+
+-- the same, of a line in its row (own)
+abbrev pub line_svg : SessionEnds → LineInRow → List ℕ
+line_svg e p = line_element e p.row p.line
 
 -- the tip of an arrow (SVG 2, section 13.7, own)
 unfoldable pub arrow_tip_svg : List ℕ
@@ -206,17 +248,21 @@ session_uprights_svg e height =
     ++ (words_tag (record { x = 200; y = 72 }) false (end_name e.left)
     ++ words_tag (record { x = 600; y = 88 }) true (end_name e.right)))
 
--- what stands in front of the elements of so many segments with these keys (own)
+-- what stands in front of the elements of so many lines, of segments with these keys (own)
 unfoldable pub session_front_svg : SessionEnds → List (Option ℕ) → (count : ℕ) → List ℕ
 session_front_svg e keys count =
     head_svg (rung_height count) ++ (arrow_tip_svg ++ (outcome_samples_svg
     ++ (key_samples_from 0 keys ++ session_uprights_svg e (rung_height count))))
 
+-- the picture of lines of a session between these ends, whose segments have these keys (own)
+unfoldable pub lines_picture : SessionEnds → List (Option ℕ) → List SessionLine → List ℕ
+lines_picture e keys ls =
+    session_front_svg e keys (length ls)
+    ++ (flat_map (line_svg e) (session_rows ls) ++ codes "</svg>\n")
+
 -- the picture of the segments of a session between these ends (own)
-unfoldable pub session_picture : SessionEnds → List SessionRung → List ℕ
-session_picture e rs =
-    session_front_svg e (keys_drawn rs) (length rs)
-    ++ (flat_map (rung_svg e) (session_rows rs) ++ codes "</svg>\n")
+abbrev pub session_picture : SessionEnds → List SessionRung → List ℕ
+session_picture e rs = lines_picture e (keys_drawn rs) (session_lines e rs)
 
 -- the same, where there is a session (own)
 abbrev pub picture_between : Option SessionEnds → List SessionRung → List ℕ

@@ -29,7 +29,7 @@ fn rung_label_height(row: u32) -> u64
     24 * u64::from(row) + 111
 }
 
-fn rung_margin_height(row: u32) -> u64
+pub(crate) fn rung_margin_height(row: u32) -> u64
     ensures { result ≡ rung_margin_height row }
 {
     24 * u64::from(row) + 120
@@ -54,7 +54,7 @@ fn rung_margin_column(end: End) -> u64
     }
 }
 
-fn rung_label_column(end: End) -> u64
+pub(crate) fn rung_label_column(end: End) -> u64
     ensures { result ≡ rung_label_column end }
 {
     match end {
@@ -121,7 +121,12 @@ fn push_label_words(
 }
 
 /// The words beside an end in a row.
-fn push_margin_words(out: &mut Vec<u8>, end: End, row: u32, words: &[u8]) -> Result<(), AllocError>
+pub(crate) fn push_margin_words(
+    out: &mut Vec<u8>,
+    end: End,
+    row: u32,
+    words: &[u8],
+) -> Result<(), AllocError>
     ensures { OnOk result (out.new.items ≡ out.old.items ++ rung_margin_svg end row words.now) }
 {
     let at = Point {
@@ -132,7 +137,7 @@ fn push_margin_words(out: &mut Vec<u8>, end: End, row: u32, words: &[u8]) -> Res
 }
 
 /// The number of a packet at the left of its row.
-fn push_packet(out: &mut Vec<u8>, row: u32, packet: u64) -> Result<(), AllocError>
+pub(crate) fn push_packet(out: &mut Vec<u8>, row: u32, packet: u64) -> Result<(), AllocError>
     ensures { OnOk result (out.new.items ≡ out.old.items ++ rung_packet_svg row packet) }
 {
     let mut number = Vec::new(*out.allocator());

@@ -3,10 +3,12 @@
 #![tactic(auto)]
 
 mod elements;
+mod fold;
 mod heads;
 mod keys;
 mod lines;
 mod picture;
+mod runs;
 
 pub use lines::{push_ends, push_rung};
 pub use picture::print_session_svg;

@@ -72,7 +72,7 @@ fn push_id(out: &mut Vec<u8>, id: Option<u8>) -> Result<(), AllocError>
 }
 
 // Puts the two ids behind `out`, each with its word.
-fn push_ids(out: &mut Vec<u8>, ids: Option<KeyIds>) -> Result<(), AllocError>
+pub(crate) fn push_ids(out: &mut Vec<u8>, ids: Option<KeyIds>) -> Result<(), AllocError>
     ensures { OnOk result (out.new.items ≡ out.old.items ++ spaced (codes "key" ∷ id_text (option_map (λ ids. ids.key_id) ids)
         ∷ codes "asks" ∷ id_text (option_map (λ ids. ids.rnext_key_id) ids) ∷ [])) }
 {
