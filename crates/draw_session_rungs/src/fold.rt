@@ -25,6 +25,18 @@ const START: Folding = Folding {
     run: None,
 };
 
+fn is_same_text(one: &[u8], two: &[u8]) -> bool
+    ensures { result ≡ bytes_eq one.now two.now }
+{
+    one == two
+}
+
+fn one_more(count: u64) -> u64
+    ensures { result ≡ next_count count }
+{
+    count.saturating_add(1)
+}
+
 // What a segment says.
 fn rung_words(alloc: Global, rung: &SessionRung) -> Result<Vec<u8>, AllocError>
     ensures { IfOk result (λ text. text.items ≡ rung_words rung.now) }
@@ -80,7 +92,7 @@ fn is_saying(alloc: Global, one: &SessionRung, two: &SessionRung) -> Result<bool
 {
     let first = rung_words(alloc, one)?;
     let second = rung_words(alloc, two)?;
-    Ok(first.as_slice() == second.as_slice())
+    Ok(is_same_text(first.as_slice(), second.as_slice()))
 }
 
 // Whether two segments name the same keys, and the same is said of them.
@@ -89,7 +101,7 @@ fn is_keyed(alloc: Global, one: &SessionRung, two: &SessionRung) -> Result<bool,
 {
     let first = key_words(alloc, one)?;
     let second = key_words(alloc, two)?;
-    Ok(first.as_slice() == second.as_slice())
+    Ok(is_same_text(first.as_slice(), second.as_slice()))
 }
 
 // Whether two segments are under one key, and the same is said of them.
@@ -98,7 +110,7 @@ fn is_even(alloc: Global, one: &SessionRung, two: &SessionRung) -> Result<bool, 
 {
     let first = run_words(alloc, one)?;
     let second = run_words(alloc, two)?;
-    Ok(first.as_slice() == second.as_slice())
+    Ok(is_same_text(first.as_slice(), second.as_slice()))
 }
 
 fn has_flag(flags: u8, flag: u8) -> bool
@@ -195,7 +207,7 @@ fn run_with(
         Some(run) => {
             let same = is_even(alloc, &run.first, rung)?;
             Ok(RungRun {
-                count: run.count.saturating_add(1),
+                count: one_more(run.count),
                 first: run.first,
                 last: *rung,
                 even: run.even && same,
@@ -256,8 +268,8 @@ fn push_folded(
     at: End,
     rung: &SessionRung,
 ) -> Result<Folding, AllocError>
-    ensures { IfOk result (λ now. now ≡ fold_step at folding.now rung.now) }
-    ensures { OnOk result (lines.new.items ≡ lines.old.items ++ fold_lines at folding.now rung.now) }
+    ensures known { IfOk result (λ now. now ≡ fold_step at folding.now rung.now) }
+    ensures lines { OnOk result (lines.new.items ≡ lines.old.items ++ fold_lines at folding.now rung.now) }
 {
     if folds_with(alloc, kinds_to(at, folding), rung)? {
         let run = run_with(alloc, folding.run, rung)?;
