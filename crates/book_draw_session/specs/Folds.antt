@@ -52,7 +52,8 @@ says_again (Some k) r = bytes_eq (rung_words k) (rung_words r)
 abbrev pub folds_with : RungKinds → SessionRung → Bool
 folds_with kinds r = is_within r && (says_again kinds.last r || says_again kinds.before r)
 
--- a segment stays known behind this one if both name the same keys and the same is said of both (own)
+-- a segment stays known behind this one if both name the same keys and the same is said of both
+-- (own)
 abbrev pub kept_kind : Option SessionRung → SessionRung → Option SessionRung
 kept_kind None r = None
 kept_kind (Some k) r = if bytes_eq (key_words k) (key_words r) then Some k else None

@@ -1,5 +1,5 @@
--- The text of a session's ladder: a line for each segment, of at most 100 columns where the number of
--- its packet has at most six digits, with its two ends as two upright strokes. Its top is
+-- The text of a session's ladder: a line for each segment, of at most 100 columns where the number
+-- of its packet has at most six digits, with its two ends as two upright strokes. Its top is
 -- `session_ladder`.
 use Rattle.std.specs.Prelude.{ℕ, ◌-◌, ◌/◌, ◌==◌, nat_lt, Bool, List, [], ◌∷◌, ◌++◌, codes, decimal}
 use Rattle.std.specs.Prelude.{length, replicate, Option, Some, None, option_map, if◌then◌else◌}

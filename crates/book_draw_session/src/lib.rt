@@ -8,5 +8,7 @@ mod laws;
 mod rung;
 
 pub use fold::{Folding, RungKinds, RungRun, SessionLine};
-pub use laws::{lines_stand_for_all, rungs_are_those_of_the_segments, rungs_are_those_of_the_table};
+pub use laws::{
+    lines_stand_for_all, rungs_are_those_of_the_segments, rungs_are_those_of_the_table,
+};
 pub use rung::{SessionEnds, SessionRung};

@@ -157,8 +157,8 @@ run_title m =
     (codes "packets " ++ decimal m.first.packet) ++ ((codes " to " ++ decimal m.last.packet)
     ++ (time_margin m.first.time ++ (codes " to" ++ (time_margin m.last.time ++ run_label m))))
 
--- what is drawn of a run in its row: its words between the ends, when its first segment was seen, when
--- its last one was, with the number of its packet, and the number of the first packet (own)
+-- what is drawn of a run in its row: its words between the ends, when its first segment was seen,
+-- when its last one was, with the number of its packet, and the number of the first packet (own)
 unfoldable pub run_drawing_svg : (row : ℕ) → RungRun → List ℕ
 run_drawing_svg row m =
     words_tag (record { x = rung_label_column A; y = rung_margin_height row }) false (run_label m)
@@ -211,7 +211,8 @@ abbrev pub keys_after : List (Option ℕ) → List SessionRung → List (Option 
 keys_after known [] = known
 keys_after known (r ∷ rs) = keys_after (and_key known r) rs
 
--- the keys of segments, in the order of their first ones; none is that of a segment without one (own)
+-- the keys of segments, in the order of their first ones; none is that of a segment without one
+-- (own)
 abbrev pub keys_drawn : List SessionRung → List (Option ℕ)
 keys_drawn rs = keys_after [] rs
 

@@ -15,7 +15,7 @@ pub fn elements_are_those_of_the_session()
     ensures rows { (ls : List Line) (i : ℕ) → slice_get (session_rows ls) i ≡ option_map (line_in_row i) (slice_get ls i) }
     ensures picture { (number : ℕ) (rs : List Segment) (e : Ends) → session_at number (sessions_drawn rs) ≡ Some e
         → session_svg number rs ≡ session_front_svg e (keys_drawn (rungs_of_session number rs)) (length (session_lines e (rungs_of_session number rs)))
-            ++ (flat_map (line_svg e) (session_rows (session_lines e (rungs_of_session number rs))) ++ codes "</svg>\n") }
+        ++ (flat_map (line_svg e) (session_rows (session_lines e (rungs_of_session number rs))) ++ codes "</svg>\n") }
     ensures text { (number : ℕ) (rs : List Segment) (e : Ends) → session_at number (sessions_drawn rs) ≡ Some e
         → session_ladder number rs ≡ ends_text e ++ flat_map (session_rung_text e) (rungs_of_session number rs) }
 {}

@@ -1,12 +1,12 @@
 //! Runs of segments that say the same.
-ghost use Rattle.std.specs.Prelude.{◌≡◌, ◌++◌, ◌∷◌, ◌<◌, [], IfOk, OnOk, codes, option_map};
+ghost use Rattle.std.specs.Prelude.{◌≡◌, ◌++◌, ◌<◌, IfOk, OnOk};
 ghost use Rattle.std.specs.Str.{bytes_eq};
-ghost use Rattle.book_draw_session.specs.Folds.{and_kind, fold_lines, fold_start, fold_step, folds_with, is_within, kept_kind, key_words, kinds_to, lines_from, next_count, run_label, run_lines, run_with, run_words, rung_words, says_again, session_lines, after_drawn};
+ghost use Rattle.book_draw_session.specs.Folds.{after_drawn, and_kind, fold_lines, fold_start, fold_step, folds_with, is_within, kept_kind, kinds_to, lines_from, next_count, run_label, run_lines, run_with, says_again, session_lines};
 ghost use Rattle.book_draw_session.specs.Ladders.{reached_end};
 ghost use Rattle.book_draw_session.specs.Rungs.{has_flag};
-ghost use Rattle.book_sessions.specs.SessionTexts.{id_text};
 
-use crate::lines::{key_id_of, push_ids, push_label, push_outcome, reached_end};
+use crate::lines::reached_end;
+use crate::says::{is_even, is_keyed, is_saying, push_run_words};
 use ao_base::push_decimal;
 use book_base::End;
 use book_draw_session::{Folding, RungKinds, RungRun, SessionEnds, SessionLine, SessionRung};
@@ -25,92 +25,10 @@ const START: Folding = Folding {
     run: None,
 };
 
-fn is_same_text(one: &[u8], two: &[u8]) -> bool
-    ensures { result ≡ bytes_eq one.now two.now }
-{
-    one == two
-}
-
 fn one_more(count: u64) -> u64
     ensures { result ≡ next_count count }
 {
     count.saturating_add(1)
-}
-
-// What a segment says.
-fn rung_words(alloc: Global, rung: &SessionRung) -> Result<Vec<u8>, AllocError>
-    ensures { IfOk result (λ text. text.items ≡ rung_words rung.now) }
-{
-    let mut text = Vec::new(alloc);
-    push_label(&mut text, rung)?;
-    push_outcome(&mut text, rung.outcome)?;
-    Ok(text)
-}
-
-// The keys that a segment names, and what is said of it.
-fn key_words(alloc: Global, rung: &SessionRung) -> Result<Vec<u8>, AllocError>
-    ensures { IfOk result (λ text. text.items ≡ key_words rung.now) }
-{
-    let mut text = Vec::new(alloc);
-    push_ids(&mut text, rung.ids)?;
-    push_outcome(&mut text, rung.outcome)?;
-    Ok(text)
-}
-
-// Puts the key that a segment is under, and what is said of it, behind `out`.
-fn push_run_words(out: &mut Vec<u8>, rung: &SessionRung) -> Result<(), AllocError>
-    ensures { OnOk result (out.new.items ≡ out.old.items ++ run_words rung.now) }
-{
-    out.extend_from_slice(b", key ")?;
-    push_bare_id(out, key_id_of(rung.ids))?;
-    out.push(b',')?;
-    push_outcome(out, rung.outcome)
-}
-
-// Puts the KeyID behind `out`, or a dash where there is none.
-fn push_bare_id(out: &mut Vec<u8>, id: Option<u8>) -> Result<(), AllocError>
-    ensures { OnOk result (out.new.items ≡ out.old.items ++ id_text id) }
-{
-    match id {
-        None => out.extend_from_slice(b"-"),
-        Some(id) => push_decimal(out, u64::from(id)),
-    }
-}
-
-// The same as a text of its own.
-fn run_words(alloc: Global, rung: &SessionRung) -> Result<Vec<u8>, AllocError>
-    ensures { IfOk result (λ text. text.items ≡ run_words rung.now) }
-{
-    let mut text = Vec::new(alloc);
-    push_run_words(&mut text, rung)?;
-    Ok(text)
-}
-
-// Whether two segments say the same.
-fn is_saying(alloc: Global, one: &SessionRung, two: &SessionRung) -> Result<bool, AllocError>
-    ensures { IfOk result (λ same. same ≡ bytes_eq (rung_words one.now) (rung_words two.now)) }
-{
-    let first = rung_words(alloc, one)?;
-    let second = rung_words(alloc, two)?;
-    Ok(is_same_text(first.as_slice(), second.as_slice()))
-}
-
-// Whether two segments name the same keys, and the same is said of them.
-fn is_keyed(alloc: Global, one: &SessionRung, two: &SessionRung) -> Result<bool, AllocError>
-    ensures { IfOk result (λ same. same ≡ bytes_eq (key_words one.now) (key_words two.now)) }
-{
-    let first = key_words(alloc, one)?;
-    let second = key_words(alloc, two)?;
-    Ok(is_same_text(first.as_slice(), second.as_slice()))
-}
-
-// Whether two segments are under one key, and the same is said of them.
-fn is_even(alloc: Global, one: &SessionRung, two: &SessionRung) -> Result<bool, AllocError>
-    ensures { IfOk result (λ same. same ≡ bytes_eq (run_words one.now) (run_words two.now)) }
-{
-    let first = run_words(alloc, one)?;
-    let second = run_words(alloc, two)?;
-    Ok(is_same_text(first.as_slice(), second.as_slice()))
 }
 
 fn has_flag(flags: u8, flag: u8) -> bool
@@ -190,11 +108,7 @@ fn kinds_to(at: End, folding: &Folding) -> RungKinds
 }
 
 // A run with one segment more.
-fn run_with(
-    alloc: Global,
-    run: Option<RungRun>,
-    rung: &SessionRung,
-) -> Result<RungRun, AllocError>
+fn run_with(alloc: Global, run: Option<RungRun>, rung: &SessionRung) -> Result<RungRun, AllocError>
     ensures { IfOk result (λ now. now ≡ run_with run rung.now) }
 {
     match run {

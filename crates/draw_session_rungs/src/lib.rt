@@ -9,6 +9,7 @@ mod keys;
 mod lines;
 mod picture;
 mod runs;
+mod says;
 
 pub use lines::{push_ends, push_rung};
 pub use picture::print_session_svg;
