@@ -137,7 +137,7 @@ lines_count [] = 0
 lines_count (l ∷ ls) = line_count l + lines_count ls
 
 -- the words of a run: how many segments it has, and the key that all are under with what is said of
--- all; if that isn't the same of all, as in its two directions, they are as in the lines above (own)
+-- all; if that isn't the same of all, as where its two directions differ, they are as above (own)
 abbrev pub run_label : RungRun → List ℕ
 run_label m =
     32 ∷ decimal m.count ++ (codes " more"
