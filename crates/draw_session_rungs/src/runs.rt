@@ -1,5 +1,5 @@
 //! The elements of runs of segments, and those of lines.
-ghost use Rattle.std.specs.Prelude.{◌≡◌, ◌++◌, ◌∷◌, IfOk, OnOk, None, decimal};
+ghost use Rattle.std.specs.Prelude.{◌≡◌, ◌++◌, ◌∷◌, IfOk, OnOk, None, decimal, false};
 ghost use Rattle.book_base.specs.declared.end.End.TheVariants.{A};
 ghost use Rattle.book_draw_session.specs.Folds.{run_label};
 ghost use Rattle.book_draw_session.specs.Ladders.{time_margin};
