@@ -1,5 +1,6 @@
 //! The keys of a session, and the samples of their colours.
 ghost use Rattle.std.specs.Prelude.{◌≡◌, ◌≤◌, ◌<◌, ◌++◌, IfOk, OnOk, codes};
+ghost use Rattle.std.specs.List.{list_any};
 ghost use Rattle.book_draw_session_svg.specs.SessionPictures.{and_key, key_name, key_sample_svg, key_samples_from, keys_drawn};
 ghost use Rattle.book_sessions.specs.Sessions.{same_id};
 ghost use Rattle.book_svg.specs.Tags.{colour_text};
@@ -20,14 +21,21 @@ fn is_same_id(one: Option<u8>, two: Option<u8>) -> bool
     one == two
 }
 
+fn is_known(known: &[Option<u8>], key: Option<u8>) -> bool
+    ensures { result ≡ list_any (same_id key) known.now }
+{
+    known.iter().any(|other| is_same_id(key, *other))
+}
+
 /// Puts the key of a segment behind those that are known, unless it is one of them.
 fn push_key(known: &mut Vec<Option<u8>>, rung: &SessionRung) -> Result<(), AllocError>
     ensures { OnOk result (known.new.items ≡ and_key known.old.items rung.now) }
 {
     let key = key_id_of(rung.ids);
-    if !known.iter().any(|other| is_same_id(key, *other)) {
-        known.push(key)?;
+    if is_known(known.as_slice(), key) {
+        return Ok(());
     }
+    known.push(key)?;
     Ok(())
 }
 
