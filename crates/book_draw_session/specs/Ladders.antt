@@ -1,7 +1,8 @@
--- The text of a session's ladder: a line for each segment, of at most 100 columns where its sockets
--- are short, with its two ends as two upright strokes. Its top is `session_ladder`.
-use Rattle.std.specs.Prelude.{ℕ, ◌/◌, ◌==◌, Bool, List, [], ◌∷◌, ◌++◌, codes, decimal}
-use Rattle.std.specs.Prelude.{Option, Some, None, option_map, if◌then◌else◌}
+-- The text of a session's ladder: a line for each segment, of at most 100 columns where the number
+-- of its packet has at most six digits, with its two ends as two upright strokes. Its top is
+-- `session_ladder`.
+use Rattle.std.specs.Prelude.{ℕ, ◌-◌, ◌/◌, ◌==◌, nat_lt, Bool, List, [], ◌∷◌, ◌++◌, codes, decimal}
+use Rattle.std.specs.Prelude.{length, replicate, Option, Some, None, option_map, if◌then◌else◌}
 use Rattle.std.specs.List.{flat_map}
 use Rattle.book_base.specs.declared.address.Socket.{Socket}
 use Rattle.book_base.specs.declared.end.End.{End}
@@ -10,6 +11,7 @@ use Rattle.book_segments.specs.Segments.{FIN, SYN, RST, PSH, ACK}
 use Rattle.book_segments.specs.Sockets.{same_socket}
 use Rattle.book_lines.specs.Texts.{spaced}
 use Rattle.book_link.specs.Reports.{verdict_text}
+use Rattle.book_link.specs.Worlds.{other}
 use Rattle.book_scope_texts.specs.Addresses.{usual_address_text}
 use Rattle.book_scope_texts.specs.Instants.{instant_text}
 use Rattle.book_draw.specs.Ladders.{Pen, arrowhead, blank_way, length_label, line_at, way_to}
@@ -65,6 +67,16 @@ time_margin time = 32 ∷ instant_text (time / 1000000000)
 abbrev pub reached_end : SessionEnds → SessionRung → End
 reached_end e r = if same_socket r.source e.left then B else A
 
+-- the left margin: the number of a packet at its left, and the words at its right (own)
+abbrev pub numbered : (packet : ℕ) → (words : List ℕ) → List ℕ
+numbered packet words =
+    decimal packet ++ (replicate (27 - length (decimal packet) - length words) 32 ++ words)
+
+-- the words beside an end, with the number of the packet where the end is the left one (own)
+abbrev pub margin_beside : End → (packet : ℕ) → (words : List ℕ) → List ℕ
+margin_beside A packet words = numbered packet words
+margin_beside B packet words = words
+
 -- an arrow from one end to the other that is drawn of this byte (own)
 abbrev pub pen_to : End → (stroke : ℕ) → Pen
 pen_to at stroke = record { lead = stroke; stroke = stroke; tip = arrowhead at }
@@ -73,18 +85,30 @@ pen_to at stroke = record { lead = stroke; stroke = stroke; tip = arrowhead at }
 abbrev pub arrow_line : End → (stroke : ℕ) → (label own other : List ℕ) → List ℕ
 arrow_line at stroke label own other = line_at at own (way_to at (pen_to at stroke) label) other
 
+-- the line of a segment that comes to this end (own)
+abbrev pub line_to : End → SessionRung → List ℕ
+line_to at r = arrow_line at (rung_stroke r.outcome) (rung_label r)
+    (margin_beside at r.packet (spaced (said_texts r.outcome)))
+    (margin_beside (other at) r.packet (time_margin r.time))
+
 -- the line of a segment between these ends (own)
 unfoldable pub session_rung_text : SessionEnds → SessionRung → List ℕ
-session_rung_text e r = arrow_line (reached_end e r) (rung_stroke r.outcome) (rung_label r)
-    (spaced (said_texts r.outcome)) (time_margin r.time)
+session_rung_text e r = line_to (reached_end e r) r
 
 -- the name of an end: its address and its port (own)
 abbrev pub end_name : Socket → List ℕ
 end_name s = spaced (usual_address_text s.address ∷ decimal s.port ∷ [])
 
+-- two names above their strokes; a left one that is longer than its margin has a line of its own
+-- (own)
+abbrev pub names_text : (left right : List ℕ) → List ℕ
+names_text left right =
+    if nat_lt 27 (length left) then left ++ (10 ∷ line_at A [] blank_way right)
+    else line_at A left blank_way right
+
 -- the names of the ends above their strokes (own)
 unfoldable pub ends_text : SessionEnds → List ℕ
-ends_text e = line_at A (end_name e.left) blank_way (end_name e.right)
+ends_text e = names_text (end_name e.left) (end_name e.right)
 
 -- the ladder of the segments between these ends; there is none without ends (own)
 abbrev pub ladder_between : Option SessionEnds → List SessionRung → List ℕ

@@ -1,5 +1,5 @@
 //! Theorems about the ladders of sessions, as clauses of functions that do nothing.
-ghost use Rattle.std.specs.Prelude.{◌≡◌, ℕ, List, length, map, option_map};
+ghost use Rattle.std.specs.Prelude.{◌≡◌, ◌≤◌, ℕ, List, length, map, option_map};
 ghost use Rattle.std.specs.List.{find};
 ghost use Rattle.book_captures.specs.Captures.{CapturePacket};
 ghost use Rattle.book_cmd_check.specs.declared.given.GivenIsns.{GivenIsns};
@@ -8,6 +8,9 @@ ghost use Rattle.book_sessions.specs.Laps.{Judging};
 ghost use Rattle.book_sessions.specs.Listening.{listening_behind};
 ghost use Rattle.book_sessions.specs.Sessions.{all_stored, sessions_of};
 ghost use Rattle.book_sessions.specs.SessionTexts.{is_of_session};
+ghost use Rattle.book_draw_session.specs.declared.rung.SessionEnds.{SessionEnds as Ends};
+ghost use Rattle.book_draw_session.specs.declared.rung.SessionRung.{SessionRung as Segment};
+ghost use Rattle.book_draw_session.specs.Folds.{lines_count, session_lines};
 ghost use Rattle.book_draw_session.specs.Rungs.{counted_in, ends_of_use, rungs_in, rungs_of_session, seen_of, session_at, sessions_drawn};
 
 /// The rungs of a capture are its segments, in their order, each with its ids and with what comes of it.
@@ -26,4 +29,9 @@ pub fn rungs_are_those_of_the_table()
         → session_at number (sessions_drawn (rungs_in j given packets)) ≡ option_map ends_of_use (find (is_of_session number) (sessions_of j given packets).uses) }
     ensures counted { (j : Judging) (given : List GivenIsns) (packets : List CapturePacket) (number : ℕ)
         → length (rungs_of_session number (rungs_in j given packets)) ≡ counted_in number (sessions_of j given packets).uses }
+{}
+
+/// The lines of segments stand for all of them: each line for one, or for as many as it says.
+pub fn lines_stand_for_all()
+    ensures { (e : Ends) (rs : List Segment) → length rs ≤ 18446744073709551615 → lines_count (session_lines e rs) ≡ length rs }
 {}

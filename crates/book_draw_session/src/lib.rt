@@ -3,8 +3,12 @@
 //! them.
 #![tactic(auto)]
 
+mod fold;
 mod laws;
 mod rung;
 
-pub use laws::{rungs_are_those_of_the_segments, rungs_are_those_of_the_table};
+pub use fold::{Folding, RungKinds, RungRun, SessionLine};
+pub use laws::{
+    lines_stand_for_all, rungs_are_those_of_the_segments, rungs_are_those_of_the_table,
+};
 pub use rung::{SessionEnds, SessionRung};

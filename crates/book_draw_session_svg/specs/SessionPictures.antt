@@ -1,8 +1,10 @@
 -- The picture of a session in SVG, 800 wide: its two ends as upright strokes, a row of 24 for each
--- segment with an arrow from the end that sends to the one that receives. Our own format. Its tops
--- are `session_svg` and `session_as`.
+-- line, that of a segment with an arrow from the end that sends to the one that receives. Our own
+-- format. Its tops are `session_svg` and `session_as`.
 use Rattle.std.specs.Prelude.{ℕ, ◌+◌, ◌*◌, ◌/◌, ◌%◌, List, [], ◌∷◌, ◌++◌, length, codes, decimal}
-use Rattle.std.specs.Prelude.{true, false, flat_map, Option, Some, None, option_map}
+use Rattle.std.specs.Prelude.{true, false, nat_lt, flat_map, Option, Some, None, option_map}
+use Rattle.std.specs.Prelude.{if◌then◌else◌}
+use Rattle.std.specs.List.{list_any}
 use Rattle.book_base.specs.declared.end.End.{End}
 use Rattle.book_base.specs.declared.end.End.TheVariants.{A, B}
 use Rattle.book_lines.specs.Texts.{spaced}
@@ -10,8 +12,13 @@ use Rattle.book_link.specs.Worlds.{same_end, other}
 use Rattle.book_scope_texts.specs.Instants.{instant_text}
 use Rattle.book_sessions.specs.declared.outcome.SegmentOutcome.{SegmentOutcome}
 use Rattle.book_sessions.specs.declared.outcome.SegmentOutcome.TheVariants as outcome
+use Rattle.book_sessions.specs.Sessions.{same_id}
+use Rattle.book_draw_session.specs.declared.fold.RungRun.{RungRun}
+use Rattle.book_draw_session.specs.declared.fold.SessionLine.{SessionLine}
+use Rattle.book_draw_session.specs.declared.fold.SessionLine.TheVariants.{Whole, More}
 use Rattle.book_draw_session.specs.declared.rung.SessionEnds.{SessionEnds}
 use Rattle.book_draw_session.specs.declared.rung.SessionRung.{SessionRung}
+use Rattle.book_draw_session.specs.Folds.{run_label, session_lines}
 use Rattle.book_draw_session.specs.Ladders.{end_name, said_texts, reached_end, rung_label}
 use Rattle.book_draw_session.specs.Ladders.{session_ladder, time_margin}
 use Rattle.book_draw_session.specs.Rungs.{rungs_of_session, session_at, sessions_drawn}
@@ -21,15 +28,15 @@ use Rattle.book_svg.specs.Tags.{colour_text, head_svg, line_tag, titled_tag, wor
 
 -- the height of a row, from above (own)
 abbrev pub rung_height : (row : ℕ) → ℕ
-rung_height row = 24 * row + 92
+rung_height row = 24 * row + 116
 
 -- the height of the words on the arrow of a row (own)
 abbrev pub rung_label_height : (row : ℕ) → ℕ
-rung_label_height row = 24 * row + 87
+rung_label_height row = 24 * row + 111
 
 -- the height of the words beside a row (own)
 abbrev pub rung_margin_height : (row : ℕ) → ℕ
-rung_margin_height row = 24 * row + 96
+rung_margin_height row = 24 * row + 120
 
 -- the column of an end's stroke (own)
 abbrev pub upright_column : End → ℕ
@@ -65,18 +72,27 @@ pub record RungInRow : Type 0 where
 abbrev pub rung_in_row : (row : ℕ) → SessionRung → RungInRow
 rung_in_row row r = record { row = row; rung = r }
 
--- segments in their rows, the first one in this row (own)
-abbrev pub rows_from : (row : ℕ) → List SessionRung → List RungInRow
+-- a line in its row, from 0 (own)
+pub record LineInRow : Type 0 where
+  pub row : ℕ
+  pub line : SessionLine
+
+-- a line in this row (own)
+abbrev pub line_in_row : (row : ℕ) → SessionLine → LineInRow
+line_in_row row l = record { row = row; line = l }
+
+-- lines in their rows, the first one in this row (own)
+abbrev pub rows_from : (row : ℕ) → List SessionLine → List LineInRow
 rows_from row [] = []
-rows_from row (r ∷ rs) = rung_in_row row r ∷ rows_from (row + 1) rs
+rows_from row (l ∷ ls) = line_in_row row l ∷ rows_from (row + 1) ls
 
--- segments in their rows (own)
-abbrev pub session_rows : List SessionRung → List RungInRow
-session_rows rs = rows_from 0 rs
+-- lines in their rows (own)
+abbrev pub session_rows : List SessionLine → List LineInRow
+session_rows ls = rows_from 0 ls
 
--- the segment of a row (own)
-abbrev pub rung_of_row : RungInRow → SessionRung
-rung_of_row p = p.rung
+-- the line of a row (own)
+abbrev pub line_of_row : LineInRow → SessionLine
+line_of_row p = p.line
 
 -- the arrow of a row to this end (own)
 abbrev pub rung_arrow_svg : End → (row : ℕ) → SegmentOutcome → List ℕ
@@ -96,21 +112,27 @@ abbrev pub rung_margin_svg : End → (row : ℕ) → (words : List ℕ) → List
 rung_margin_svg e row words =
     words_tag (record { x = rung_margin_column e; y = rung_margin_height row }) (same_end e A) words
 
+-- the number of a packet at the left of its row (own)
+abbrev pub rung_packet_svg : (row packet : ℕ) → List ℕ
+rung_packet_svg row packet =
+    words_tag (record { x = 8; y = rung_margin_height row }) false (decimal packet)
+
 -- what is drawn of a segment that comes to this end: its arrow with its words, what is said of it,
--- and when it was seen, beside the end that sends (own)
+-- when it was seen, beside the end that sends, and the number of its packet (own)
 unfoldable pub rung_drawing_svg : End → RungInRow → List ℕ
 rung_drawing_svg at p =
     rung_arrow_svg at p.row p.rung.outcome
     ++ (rung_label_svg (other at) p.row (rung_label p.rung)
     ++ (rung_margin_svg at p.row (spaced (said_texts p.rung.outcome))
-    ++ rung_margin_svg (other at) p.row (time_margin p.rung.time)))
+    ++ (rung_margin_svg (other at) p.row (time_margin p.rung.time)
+    ++ rung_packet_svg p.row p.rung.packet)))
 
--- the numbers of a segment: how many nanoseconds of its second had passed, its sequence number, and
--- what its acknowledgement field says (RFC 9293, section 3.1, own)
+-- the numbers of a segment: that of its packet, how many nanoseconds of its second had passed, its
+-- sequence number, and what its acknowledgement field says (RFC 9293, section 3.1, own)
 unfoldable pub rung_numbers : SessionRung → List ℕ
 rung_numbers r =
-    spaced (codes "ns" ∷ decimal (r.time % 1000000000) ∷ codes "seq" ∷ decimal r.sequence
-    ∷ codes "ack" ∷ decimal r.acknowledgement ∷ [])
+    spaced (codes "packet" ∷ decimal r.packet ∷ codes "ns" ∷ decimal (r.time % 1000000000)
+    ∷ codes "seq" ∷ decimal r.sequence ∷ codes "ack" ∷ decimal r.acknowledgement ∷ [])
 
 -- the title of a segment: when it was seen, its numbers, what is on its arrow, and what is said of
 -- it (own)
@@ -119,11 +141,44 @@ rung_title r =
     instant_text (r.time / 1000000000)
     ++ (rung_numbers r ++ (rung_label r ++ spaced (said_texts r.outcome)))
 
+-- the KeyID of a segment, if it has one (RFC 5925, section 2.2)
+abbrev pub key_of : SessionRung → Option ℕ
+key_of r = option_map (λ ids. ids.key_id) r.ids
+
 -- the element of a segment between these ends, in the colour of its KeyID (own)
 unfoldable pub rung_svg : SessionEnds → RungInRow → List ℕ
 rung_svg e p =
-    titled_tag (codes "segment") (colour_text (option_map (λ ids. ids.key_id) p.rung.ids))
+    titled_tag (codes "segment") (colour_text (key_of p.rung))
     (rung_title p.rung) (rung_drawing_svg (reached_end e p.rung) p)
+
+-- the title of a run: its first packet and its last one, when they were seen, and its words (own)
+unfoldable pub run_title : RungRun → List ℕ
+run_title m =
+    (codes "packets " ++ decimal m.first.packet) ++ ((codes " to " ++ decimal m.last.packet)
+    ++ (time_margin m.first.time ++ (codes " to" ++ (time_margin m.last.time ++ run_label m))))
+
+-- what is drawn of a run in its row: its words between the ends, when its first segment was seen,
+-- when its last one was, with the number of its packet, and the number of the first packet (own)
+unfoldable pub run_drawing_svg : (row : ℕ) → RungRun → List ℕ
+run_drawing_svg row m =
+    words_tag (record { x = rung_label_column A; y = rung_margin_height row }) false (run_label m)
+    ++ (rung_margin_svg A row (time_margin m.first.time)
+    ++ (rung_margin_svg B row (time_margin m.last.time ++ (32 ∷ decimal m.last.packet))
+    ++ rung_packet_svg row m.first.packet))
+
+-- the element of a run in its row (own)
+abbrev pub run_svg : (row : ℕ) → RungRun → List ℕ
+run_svg row m =
+    titled_tag (codes "more") (colour_text None) (run_title m) (run_drawing_svg row m)
+
+-- the element of a line between these ends in its row (own)
+abbrev pub line_element : SessionEnds → (row : ℕ) → SessionLine → List ℕ
+line_element e row (Whole r) = rung_svg e (rung_in_row row r)
+line_element e row (More m) = run_svg row m
+
+-- the same, of a line in its row (own)
+abbrev pub line_svg : SessionEnds → LineInRow → List ℕ
+line_svg e p = line_element e p.row p.line
 
 -- the tip of an arrow (SVG 2, section 13.7, own)
 unfoldable pub arrow_tip_svg : List ℕ
@@ -146,10 +201,44 @@ outcome_samples_svg =
     ++ (outcome_sample_svg 170 outcome.Unconfirmed (codes "unconfirmed")
     ++ outcome_sample_svg 340 outcome.NoNode (codes "refused, or not judged"))
 
+-- the keys that are known, after a segment (own)
+abbrev pub and_key : List (Option ℕ) → SessionRung → List (Option ℕ)
+and_key known r =
+    if list_any (same_id (key_of r)) known then known else known ++ key_of r ∷ []
+
+-- the keys that are known, after segments (own)
+abbrev pub keys_after : List (Option ℕ) → List SessionRung → List (Option ℕ)
+keys_after known [] = known
+keys_after known (r ∷ rs) = keys_after (and_key known r) rs
+
+-- the keys of segments, in the order of their first ones; none is that of a segment without one
+-- (own)
+abbrev pub keys_drawn : List SessionRung → List (Option ℕ)
+keys_drawn rs = keys_after [] rs
+
+-- the name of a key (own)
+abbrev pub key_name : Option ℕ → List ℕ
+key_name None = codes "no key"
+key_name (Some id) = codes "key " ++ decimal id
+
+-- the sample of a key's colour, in this place, with its name (own)
+unfoldable pub key_sample_svg : (place : ℕ) → Option ℕ → List ℕ
+key_sample_svg place key =
+    line_tag (record { x = 96 * place + 20; y = 44 }) (record { x = 96 * place + 50; y = 44 })
+    (codes " stroke=\"" ++ (colour_text key ++ codes "\""))
+    ++ words_tag (record { x = 96 * place + 56; y = 48 }) false (key_name key)
+
+-- the samples of keys, the first one in this place; eight stand side by side, and more are left out
+-- (own)
+abbrev pub key_samples_from : (place : ℕ) → List (Option ℕ) → List ℕ
+key_samples_from place [] = []
+key_samples_from place (key ∷ keys) =
+    if nat_lt place 8 then key_sample_svg place key ++ key_samples_from (place + 1) keys else []
+
 -- the upright stroke of an end, of this height (own)
 abbrev pub session_upright_svg : (height : ℕ) → End → List ℕ
 session_upright_svg height e =
-    line_tag (record { x = upright_column e; y = 70 }) (record { x = upright_column e; y = height })
+    line_tag (record { x = upright_column e; y = 94 }) (record { x = upright_column e; y = height })
     (codes " stroke=\"#000\"")
 
 -- the two ends, of this height, with their names above them (own)
@@ -157,19 +246,24 @@ unfoldable pub session_uprights_svg : SessionEnds → (height : ℕ) → List �
 session_uprights_svg e height =
     session_upright_svg height A
     ++ (session_upright_svg height B
-    ++ (words_tag (record { x = 200; y = 48 }) false (end_name e.left)
-    ++ words_tag (record { x = 600; y = 64 }) true (end_name e.right)))
+    ++ (words_tag (record { x = 200; y = 72 }) false (end_name e.left)
+    ++ words_tag (record { x = 600; y = 88 }) true (end_name e.right)))
 
--- what stands in front of the elements of so many segments (own)
-unfoldable pub session_front_svg : SessionEnds → (count : ℕ) → List ℕ
-session_front_svg e count =
-    head_svg (rung_height count)
-    ++ (arrow_tip_svg ++ (outcome_samples_svg ++ session_uprights_svg e (rung_height count)))
+-- what stands in front of the elements of so many lines, of segments with these keys (own)
+unfoldable pub session_front_svg : SessionEnds → List (Option ℕ) → (count : ℕ) → List ℕ
+session_front_svg e keys count =
+    head_svg (rung_height count) ++ (arrow_tip_svg ++ (outcome_samples_svg
+    ++ (key_samples_from 0 keys ++ session_uprights_svg e (rung_height count))))
+
+-- the picture of lines of a session between these ends, whose segments have these keys (own)
+unfoldable pub lines_picture : SessionEnds → List (Option ℕ) → List SessionLine → List ℕ
+lines_picture e keys ls =
+    session_front_svg e keys (length ls)
+    ++ (flat_map (line_svg e) (session_rows ls) ++ codes "</svg>\n")
 
 -- the picture of the segments of a session between these ends (own)
-unfoldable pub session_picture : SessionEnds → List SessionRung → List ℕ
-session_picture e rs =
-    session_front_svg e (length rs) ++ (flat_map (rung_svg e) (session_rows rs) ++ codes "</svg>\n")
+abbrev pub session_picture : SessionEnds → List SessionRung → List ℕ
+session_picture e rs = lines_picture e (keys_drawn rs) (session_lines e rs)
 
 -- the same, where there is a session (own)
 abbrev pub picture_between : Option SessionEnds → List SessionRung → List ℕ

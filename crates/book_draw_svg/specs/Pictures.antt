@@ -1,7 +1,7 @@
 -- The picture of a ladder in SVG, 800 wide: the two ends as upright strokes, a row of 22 for each
 -- rung, an arrow from where a segment is made to where it comes. Our own format. Its tops are
 -- `svg_text` and `drawn_as`.
-use Rattle.std.specs.Prelude.{ℕ, ◌+◌, ◌*◌, ◌==◌, Bool, true, false, List, [], ◌∷◌, ◌++◌}
+use Rattle.std.specs.Prelude.{ℕ, ◌+◌, ◌*◌, ◌==◌, ◌&&◌, Bool, true, false, List, [], ◌∷◌, ◌++◌}
 use Rattle.std.specs.Prelude.{length, codes, flat_map, Option, Some, None, option_map}
 use Rattle.std.specs.Prelude.{if◌then◌else◌}
 use Rattle.book_base.specs.declared.end.End.{End}
@@ -39,18 +39,18 @@ lost_height row = 22 * row + 93
 
 -- the column of an end's stroke (own)
 abbrev pub end_column : End → ℕ
-end_column A = 222
-end_column B = 578
+end_column A = 262
+end_column B = 538
 
 -- the column of the words beside an end (own)
 abbrev pub margin_column : End → ℕ
-margin_column A = 212
-margin_column B = 588
+margin_column A = 252
+margin_column B = 548
 
 -- the column of the words on an arrow, at the side of this end (own)
 abbrev pub label_column : End → ℕ
-label_column A = 232
-label_column B = 568
+label_column A = 272
+label_column B = 528
 
 -- the column in which the arrow of a segment that is lost ends (own)
 abbrev pub lost_column : End → ℕ
@@ -105,10 +105,6 @@ reaching_svg e p =
     (record { x = end_column e; y = row_height p.row })
     (codes " marker-end=\"url(#tip)\"" ++ dash_attribute p.stroke)
 
--- the label of what comes, which stands at an arrow that began in an earlier row (own)
-abbrev pub late_label_svg : End → Placed → List ℕ
-late_label_svg e p = if is_at_once p.row p.start then [] else label_svg e p
-
 -- the arrow of a rung with its title, where it has one (own)
 abbrev pub arrow_svg : Placed → Rung → List ℕ
 arrow_svg p (Clock e seconds) = []
@@ -117,15 +113,30 @@ arrow_svg p (Made e s transmission) =
     (p.label ++ words_beside p.stroke p.rung) (leaving_svg e p.row p.stroke ++ label_svg e p)
 arrow_svg p (Came e what answer) =
     titled_tag (codes "came") (colour_text (option_map (λ s. s.key_id) p.start))
-    (p.label ++ words_beside p.stroke p.rung) (reaching_svg e p ++ late_label_svg e p)
+    (p.label ++ words_beside p.stroke p.rung) (reaching_svg e p)
 arrow_svg p (Call e d reply) = []
 arrow_svg p (Turned e phase) = []
+
+-- this is the stroke of what comes as it was made, for the first time (own)
+abbrev pub is_whole : Stroke → Bool
+is_whole stroke.Whole = true
+is_whole s = false
+
+-- the label of what comes, which stands beside the end, so that no stroke crosses it; what comes as
+-- soon as it is made has the label on its arrow alone (own)
+abbrev pub came_label : Placed → Rung → List ℕ
+came_label p (Clock e seconds) = []
+came_label p (Made e s transmission) = []
+came_label p (Came e what answer) =
+    if is_at_once p.row p.start && is_whole p.stroke then [] else p.label
+came_label p (Call e d reply) = []
+came_label p (Turned e phase) = []
 
 -- the words beside an end (own)
 abbrev pub margin_svg : Placed → List ℕ
 margin_svg p =
     words_tag (record { x = margin_column (rung_end p.rung); y = margin_height p.row })
-    (same_end (rung_end p.rung) A) (words_beside p.stroke p.rung)
+    (same_end (rung_end p.rung) A) (came_label p p.rung ++ words_beside p.stroke p.rung)
 
 -- the element of a rung (own)
 abbrev pub element_svg : Placed → List ℕ

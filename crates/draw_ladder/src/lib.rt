@@ -11,4 +11,4 @@ mod margins;
 pub use fates::Seen;
 pub use labels::{push_arrival, push_sketch};
 pub use ladder::{print_ladder, push_margin, rung_comes, rung_end};
-pub use lines::{push_arrow, push_names};
+pub use lines::{push_arrow, push_names, push_times};

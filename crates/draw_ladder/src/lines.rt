@@ -17,8 +17,8 @@ pub(crate) struct Pen {
     tip: u8,
 }
 
-/// Puts the byte behind `out` so many times.
-fn push_times(out: &mut Vec<u8>, byte: u8, count: usize) -> Result<(), AllocError>
+/// Puts the byte behind `out` so many times. An error only for want of memory.
+pub fn push_times(out: &mut Vec<u8>, byte: u8, count: usize) -> Result<(), AllocError>
     ensures { OnOk result (out.new.items ≡ out.old.items ++ replicate count byte) }
 {
     for _done in 0..count {

@@ -1,10 +1,11 @@
 //! The elements of a picture: each segment in its row.
 ghost use Rattle.std.specs.Prelude.{◌≡◌, ◌++◌, IfOk, OnOk, codes};
-ghost use Rattle.book_draw_session_svg.specs.SessionPictures.{rung_arrow_svg, outcome_dashes, rung_drawing_svg, rung_svg, upright_column, rung_label_column, rung_label_height, rung_label_svg, rung_margin_column, rung_margin_height, rung_margin_svg, rung_numbers, rung_in_row, rung_height, rung_title};
+ghost use Rattle.book_draw_session_svg.specs.SessionPictures.{rung_arrow_svg, outcome_dashes, rung_drawing_svg, rung_svg, upright_column, rung_label_column, rung_label_height, rung_label_svg, rung_margin_column, rung_margin_height, rung_margin_svg, rung_numbers, rung_packet_svg, rung_in_row, rung_height, rung_title};
 ghost use Rattle.book_draw_session.specs.Ladders.{said_texts};
 ghost use Rattle.book_lines.specs.Texts.{spaced};
 
 use crate::lines::{NANOSECONDS, key_id_of, push_label, push_outcome, push_time, reached_end};
+use ao_base::push_decimal;
 use book_base::End;
 use book_draw_session::{SessionEnds, SessionRung};
 use book_sessions::SegmentOutcome;
@@ -19,19 +20,19 @@ use text_lines::push_field;
 pub(crate) fn rung_height(row: u32) -> u64
     ensures { result ≡ rung_height row }
 {
-    24 * u64::from(row) + 92
+    24 * u64::from(row) + 116
 }
 
 fn rung_label_height(row: u32) -> u64
     ensures { result ≡ rung_label_height row }
 {
-    24 * u64::from(row) + 87
+    24 * u64::from(row) + 111
 }
 
-fn rung_margin_height(row: u32) -> u64
+pub(crate) fn rung_margin_height(row: u32) -> u64
     ensures { result ≡ rung_margin_height row }
 {
-    24 * u64::from(row) + 96
+    24 * u64::from(row) + 120
 }
 
 /// The column of an end's stroke.
@@ -53,7 +54,7 @@ fn rung_margin_column(end: End) -> u64
     }
 }
 
-fn rung_label_column(end: End) -> u64
+pub(crate) fn rung_label_column(end: End) -> u64
     ensures { result ≡ rung_label_column end }
 {
     match end {
@@ -120,7 +121,12 @@ fn push_label_words(
 }
 
 /// The words beside an end in a row.
-fn push_margin_words(out: &mut Vec<u8>, end: End, row: u32, words: &[u8]) -> Result<(), AllocError>
+pub(crate) fn push_margin_words(
+    out: &mut Vec<u8>,
+    end: End,
+    row: u32,
+    words: &[u8],
+) -> Result<(), AllocError>
     ensures { OnOk result (out.new.items ≡ out.old.items ++ rung_margin_svg end row words.now) }
 {
     let at = Point {
@@ -128,6 +134,16 @@ fn push_margin_words(out: &mut Vec<u8>, end: End, row: u32, words: &[u8]) -> Res
         y: rung_margin_height(row),
     };
     push_words(out, at, is_same_end(end, End::A), words)
+}
+
+/// The number of a packet at the left of its row.
+pub(crate) fn push_packet(out: &mut Vec<u8>, row: u32, packet: u64) -> Result<(), AllocError>
+    ensures { OnOk result (out.new.items ≡ out.old.items ++ rung_packet_svg row packet) }
+{
+    let mut number = Vec::new(*out.allocator());
+    push_decimal(&mut number, packet)?;
+    let y = rung_margin_height(row);
+    push_words(out, Point { x: 8, y }, false, number.as_slice())
 }
 
 /// What is drawn of a segment that comes to the end.
@@ -146,6 +162,7 @@ fn drawing_of(alloc: Global, at: End, row: u32, rung: &SessionRung) -> Result<Ve
     push_label_words(&mut out, other(at), row, label.as_slice())?;
     push_margin_words(&mut out, at, row, said.as_slice())?;
     push_margin_words(&mut out, other(at), row, time.as_slice())?;
+    push_packet(&mut out, row, rung.packet)?;
     Ok(out)
 }
 
@@ -154,6 +171,7 @@ fn drawing_of(alloc: Global, at: End, row: u32, rung: &SessionRung) -> Result<Ve
 fn push_numbers(out: &mut Vec<u8>, rung: &SessionRung) -> Result<(), AllocError>
     ensures { OnOk result (out.new.items ≡ out.old.items ++ rung_numbers rung.now) }
 {
+    push_field(out, b"packet", rung.packet)?;
     push_field(out, b"ns", rung.time % NANOSECONDS)?;
     push_field(out, b"seq", u64::from(rung.sequence))?;
     push_field(out, b"ack", u64::from(rung.acknowledgement))

@@ -5,6 +5,7 @@ ghost use Rattle.book_draw_session_svg.specs.SessionPictures.{outcome_dashes, se
 ghost use Rattle.book_svg.specs.Tags.{words_tag};
 
 use crate::elements::{outcome_dashes, rung_height, upright_column};
+use crate::keys::push_key_samples;
 use crate::lines::push_end;
 use book_base::{End, Socket};
 use book_draw_session::SessionEnds;
@@ -76,7 +77,7 @@ fn push_upright(out: &mut Vec<u8>, height: u64, end: End) -> Result<(), AllocErr
     let x = upright_column(end);
     push_line(
         out,
-        Point { x, y: 70 },
+        Point { x, y: 94 },
         Point { x, y: height },
         b" stroke=\"#000\"",
     )
@@ -98,22 +99,24 @@ fn push_uprights(out: &mut Vec<u8>, ends: &SessionEnds, height: u64) -> Result<(
 {
     push_upright(out, height, End::A)?;
     push_upright(out, height, End::B)?;
-    push_name(out, Point { x: 200, y: 48 }, false, &ends.left)?;
-    push_name(out, Point { x: 600, y: 64 }, true, &ends.right)
+    push_name(out, Point { x: 200, y: 72 }, false, &ends.left)?;
+    push_name(out, Point { x: 600, y: 88 }, true, &ends.right)
 }
 
-/// Puts what stands in front of so many segments behind `out`.
+/// Puts what stands in front of so many segments with these keys behind `out`.
 #[tactic(auto, unfolding(book_draw_session_svg::specs::SessionPictures::session_front_svg))]
 pub(crate) fn push_front(
     out: &mut Vec<u8>,
     ends: &SessionEnds,
+    keys: &[Option<u8>],
     count: u32,
 ) -> Result<(), AllocError>
-    ensures { OnOk result (out.new.items ≡ out.old.items ++ session_front_svg ends.now count) }
+    ensures { OnOk result (out.new.items ≡ out.old.items ++ session_front_svg ends.now keys.now count) }
 {
     let height = rung_height(count);
     push_head(out, height)?;
     push_tip(out)?;
     push_samples(out)?;
+    push_key_samples(out, keys)?;
     push_uprights(out, ends, height)
 }

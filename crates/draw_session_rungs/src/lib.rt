@@ -3,9 +3,13 @@
 #![tactic(auto)]
 
 mod elements;
+mod fold;
 mod heads;
+mod keys;
 mod lines;
 mod picture;
+mod runs;
+mod says;
 
 pub use lines::{push_ends, push_rung};
 pub use picture::print_session_svg;

@@ -1,16 +1,18 @@
 //! The lines of a session's ladder, and the words of its pictures.
-ghost use Rattle.std.specs.Prelude.{◌≡◌, ◌<◌, ◌++◌, ◌∷◌, [], OnOk, codes, decimal, option_map};
+ghost use Rattle.std.specs.Prelude.{◌≡◌, ◌<◌, ◌++◌, ◌∷◌, [], OnOk, codes, option_map};
 ghost use Rattle.book_draw.specs.Ladders.{arrowhead, length_label, line_at, way_to};
 ghost use Rattle.book_lines.specs.Texts.{spaced};
 ghost use Rattle.book_link.specs.Reports.{verdict_text};
 ghost use Rattle.book_sessions.specs.SessionTexts.{id_text};
-ghost use Rattle.book_draw_session.specs.Ladders.{end_name, ends_text, flag_letter, flag_letters, said_texts, reached_end, rung_label, rung_stroke, session_rung_text, time_margin};
+ghost use Rattle.book_draw_session.specs.Ladders.{end_name, ends_text, flag_letter, flag_letters, line_to, margin_beside, names_text, numbered, said_texts, reached_end, rung_label, rung_stroke, session_rung_text, time_margin};
 
+use ao_base::push_decimal;
 use book_base::{End, Socket};
 use book_draw_session::{SessionEnds, SessionRung};
 use book_endpoint::Verdict;
 use book_sessions::{KeyIds, SegmentOutcome};
-use draw_ladder::{push_arrow, push_names};
+use both_ends::other;
+use draw_ladder::{push_arrow, push_names, push_times};
 use scope_texts::{push_address, push_instant};
 use segment_words::verdict_word;
 use std::alloc::AllocError;
@@ -70,7 +72,7 @@ fn push_id(out: &mut Vec<u8>, id: Option<u8>) -> Result<(), AllocError>
 }
 
 // Puts the two ids behind `out`, each with its word.
-fn push_ids(out: &mut Vec<u8>, ids: Option<KeyIds>) -> Result<(), AllocError>
+pub(crate) fn push_ids(out: &mut Vec<u8>, ids: Option<KeyIds>) -> Result<(), AllocError>
     ensures { OnOk result (out.new.items ≡ out.old.items ++ spaced (codes "key" ∷ id_text (option_map (λ ids. ids.key_id) ids)
         ∷ codes "asks" ∷ id_text (option_map (λ ids. ids.rnext_key_id) ids) ∷ [])) }
 {
@@ -155,6 +157,68 @@ pub(crate) fn reached_end(ends: &SessionEnds, rung: &SessionRung) -> End
     }
 }
 
+// Puts the left margin behind `out`: the number of a packet, and the words.
+fn push_numbered(out: &mut Vec<u8>, packet: u64, words: &[u8]) -> Result<(), AllocError>
+    ensures { OnOk result (out.new.items ≡ out.old.items ++ numbered packet words.now) }
+{
+    let mut number = Vec::new(*out.allocator());
+    push_decimal(&mut number, packet)?;
+    out.extend_from_slice(number.as_slice())?;
+    let room = 27_usize
+        .saturating_sub(number.as_slice().len())
+        .saturating_sub(words.len());
+    push_times(out, b' ', room)?;
+    out.extend_from_slice(words)
+}
+
+// Puts the words beside an end behind `out`, with the number of the packet where it is the left one.
+fn push_margin(out: &mut Vec<u8>, end: End, packet: u64, words: &[u8]) -> Result<(), AllocError>
+    ensures { OnOk result (out.new.items ≡ out.old.items ++ margin_beside end packet words.now) }
+{
+    match end {
+        End::A => push_numbered(out, packet, words),
+        End::B => out.extend_from_slice(words),
+    }
+}
+
+// Puts what is said of a segment that comes to this end behind `out`, as it stands beside the end.
+fn push_said(out: &mut Vec<u8>, at: End, rung: &SessionRung) -> Result<(), AllocError>
+    ensures { OnOk result (out.new.items ≡ out.old.items ++ margin_beside at rung.now.packet (spaced (said_texts rung.now.outcome))) }
+{
+    let mut words = Vec::new(*out.allocator());
+    push_outcome(&mut words, rung.outcome)?;
+    push_margin(out, at, rung.packet, words.as_slice())
+}
+
+// Puts when a segment was seen that comes from this end behind `out`, as it stands beside the end.
+fn push_seen(out: &mut Vec<u8>, sender: End, rung: &SessionRung) -> Result<(), AllocError>
+    ensures { OnOk result (out.new.items ≡ out.old.items ++ margin_beside sender rung.now.packet (time_margin rung.now.time)) }
+{
+    let mut words = Vec::new(*out.allocator());
+    push_time(&mut words, rung.time)?;
+    push_margin(out, sender, rung.packet, words.as_slice())
+}
+
+// Puts the line of a segment that comes to this end behind `out`.
+fn push_line_to(out: &mut Vec<u8>, at: End, rung: &SessionRung) -> Result<(), AllocError>
+    ensures { OnOk result (out.new.items ≡ out.old.items ++ line_to at rung.now) }
+{
+    let mut label = Vec::new(*out.allocator());
+    push_label(&mut label, rung)?;
+    let mut said = Vec::new(*out.allocator());
+    push_said(&mut said, at, rung)?;
+    let mut seen = Vec::new(*out.allocator());
+    push_seen(&mut seen, other(at), rung)?;
+    push_arrow(
+        out,
+        at,
+        rung_stroke(rung.outcome),
+        label.as_slice(),
+        said.as_slice(),
+        seen.as_slice(),
+    )
+}
+
 /// Puts the line of a segment between these ends behind `out`. An error only for want of memory.
 #[tactic(auto, unfolding(book_draw_session::specs::Ladders::session_rung_text))]
 pub fn push_rung(
@@ -164,20 +228,7 @@ pub fn push_rung(
 ) -> Result<(), AllocError>
     ensures { OnOk result (out.new.items ≡ out.old.items ++ session_rung_text ends.now rung.now) }
 {
-    let mut label = Vec::new(*out.allocator());
-    push_label(&mut label, rung)?;
-    let mut own = Vec::new(*out.allocator());
-    push_outcome(&mut own, rung.outcome)?;
-    let mut other = Vec::new(*out.allocator());
-    push_time(&mut other, rung.time)?;
-    push_arrow(
-        out,
-        reached_end(ends, rung),
-        rung_stroke(rung.outcome),
-        label.as_slice(),
-        own.as_slice(),
-        other.as_slice(),
-    )
+    push_line_to(out, reached_end(ends, rung), rung)
 }
 
 // Puts the name of an end behind `out`.
@@ -189,7 +240,20 @@ pub(crate) fn push_end(out: &mut Vec<u8>, socket: &Socket) -> Result<(), AllocEr
     push_number(out, u64::from(socket.port))
 }
 
-/// Puts the line with the names of the ends behind `out`. An error only for want of memory.
+// Puts two names above their strokes behind `out`.
+fn push_both_names(out: &mut Vec<u8>, left: &[u8], right: &[u8]) -> Result<(), AllocError>
+    ensures { OnOk result (out.new.items ≡ out.old.items ++ names_text left.now right.now) }
+{
+    if left.len() > 27 {
+        out.extend_from_slice(left)?;
+        out.push(b'\n')?;
+        push_names(out, b"", right)
+    } else {
+        push_names(out, left, right)
+    }
+}
+
+/// Puts the names of the ends above their strokes behind `out`. An error only for want of memory.
 #[tactic(auto, unfolding(book_draw_session::specs::Ladders::ends_text))]
 pub fn push_ends(out: &mut Vec<u8>, ends: &SessionEnds) -> Result<(), AllocError>
     ensures { OnOk result (out.new.items ≡ out.old.items ++ ends_text ends.now) }
@@ -198,5 +262,5 @@ pub fn push_ends(out: &mut Vec<u8>, ends: &SessionEnds) -> Result<(), AllocError
     push_end(&mut left, &ends.left)?;
     let mut right = Vec::new(*out.allocator());
     push_end(&mut right, &ends.right)?;
-    push_names(out, left.as_slice(), right.as_slice())
+    push_both_names(out, left.as_slice(), right.as_slice())
 }

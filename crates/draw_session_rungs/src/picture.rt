@@ -1,33 +1,54 @@
 //! The picture of a session.
 ghost use Rattle.std.specs.Prelude.{◌≡◌, ◌≤◌, ◌++◌, IfOk, OnOk, flat_map, length};
-ghost use Rattle.book_draw_session_svg.specs.SessionPictures.{rung_svg, session_picture, session_rows};
+ghost use Rattle.book_draw_session_svg.specs.SessionPictures.{line_svg, lines_picture, session_picture, session_rows};
 
-use crate::elements::push_element;
+use crate::fold::session_lines;
 use crate::heads::push_front;
-use book_draw_session::{SessionEnds, SessionRung};
+use crate::keys::keys_drawn;
+use crate::runs::push_line_element;
+use book_draw_session::{SessionEnds, SessionLine, SessionRung};
 use std::alloc::{AllocError, Global};
 
-/// The most segments of a picture, 2^32 - 1.
+/// The most lines of a picture, 2^32 - 1.
 const MOST_ROWS: usize = 4_294_967_295;
 
-/// Puts the elements of the segments behind `out`.
+/// Puts the elements of lines behind `out`.
 fn push_elements(
     out: &mut Vec<u8>,
     ends: &SessionEnds,
-    rungs: &[SessionRung],
+    lines: &[SessionLine],
 ) -> Result<(), AllocError>
-    requires { length rungs.now ≤ 4294967295 }
-    ensures { OnOk result (out.new.items ≡ out.old.items ++ flat_map (rung_svg ends.now) (session_rows rungs.now)) }
+    requires { length lines.now ≤ 4294967295 }
+    ensures { OnOk result (out.new.items ≡ out.old.items ++ flat_map (line_svg ends.now) (session_rows lines.now)) }
 {
-    for (index, rung) in rungs.iter().enumerate() {
-        push_element(out, ends, index as u32, rung)?;
+    for (index, line) in lines.iter().enumerate() {
+        push_line_element(out, ends, index as u32, line)?;
     }
     Ok(())
 }
 
+/// The picture of lines between these ends, whose segments have these keys.
+#[tactic(auto, unfolding(book_draw_session_svg::specs::SessionPictures::lines_picture))]
+fn print_lines(
+    alloc: Global,
+    ends: &SessionEnds,
+    keys: &[Option<u8>],
+    lines: &[SessionLine],
+) -> Result<Vec<u8>, AllocError>
+    ensures { IfOk result (λ text. text.items ≡ lines_picture ends.now keys.now lines.now) }
+{
+    if lines.len() > MOST_ROWS {
+        return Err(AllocError);
+    }
+    let mut out = Vec::new(alloc);
+    push_front(&mut out, ends, keys, lines.len() as u32)?;
+    push_elements(&mut out, ends, lines)?;
+    out.extend_from_slice(b"</svg>\n")?;
+    Ok(out)
+}
+
 /// The picture of the segments of a session between these ends, in SVG. An error only for want of memory, and
-/// where there are more than 2^32 - 1 segments.
-#[tactic(auto, unfolding(book_draw_session_svg::specs::SessionPictures::session_picture))]
+/// where it would have more than 2^32 - 1 lines.
 pub fn print_session_svg(
     alloc: Global,
     ends: &SessionEnds,
@@ -35,12 +56,7 @@ pub fn print_session_svg(
 ) -> Result<Vec<u8>, AllocError>
     ensures { IfOk result (λ text. text.items ≡ session_picture ends.now rungs.now) }
 {
-    if rungs.len() > MOST_ROWS {
-        return Err(AllocError);
-    }
-    let mut out = Vec::new(alloc);
-    push_front(&mut out, ends, rungs.len() as u32)?;
-    push_elements(&mut out, ends, rungs)?;
-    out.extend_from_slice(b"</svg>\n")?;
-    Ok(out)
+    let keys = keys_drawn(alloc, rungs)?;
+    let lines = session_lines(alloc, ends, rungs)?;
+    print_lines(alloc, ends, keys.as_slice(), lines.as_slice())
 }

@@ -1,6 +1,6 @@
 //! The elements of rungs.
 ghost use Rattle.std.specs.Prelude.{◌≡◌, ◌++◌, IfOk, OnOk, Some, codes, option_map};
-ghost use Rattle.book_draw_svg.specs.Pictures.{arrow_svg, dash_attribute, element_svg, label_svg, late_label_svg, leaving_svg, margin_svg, reaching_svg, words_beside};
+ghost use Rattle.book_draw_svg.specs.Pictures.{arrow_svg, came_label, dash_attribute, element_svg, is_whole, label_svg, leaving_svg, margin_svg, reaching_svg, words_beside};
 ghost use Rattle.book_svg.specs.Tags.{colour_text, titled_tag};
 
 use crate::positions::{
@@ -100,17 +100,6 @@ fn push_reaching(out: &mut Vec<u8>, end: End, placed: &Placed) -> Result<(), All
     push_line(out, from, to, attributes.as_slice())
 }
 
-/// The label of what comes, where its arrow began in an earlier row than the one above.
-fn push_late_label(out: &mut Vec<u8>, end: End, placed: &Placed) -> Result<(), AllocError>
-    ensures { OnOk result (out.new.items ≡ out.old.items ++ late_label_svg end placed.now) }
-{
-    if is_at_once(placed.row, placed.start) {
-        Ok(())
-    } else {
-        push_label(out, end, placed)
-    }
-}
-
 /// The title of an arrow.
 fn title_of(alloc: Global, placed: &Placed) -> Result<Vec<u8>, AllocError>
     ensures { IfOk result (λ text. text.items ≡ placed.now.label ++ words_beside placed.now.stroke placed.now.rung) }
@@ -128,16 +117,6 @@ fn made_drawing(alloc: Global, end: End, placed: &Placed) -> Result<Vec<u8>, All
     let mut text = Vec::new(alloc);
     push_leaving(&mut text, end, placed.row, placed.stroke)?;
     push_label(&mut text, end, placed)?;
-    Ok(text)
-}
-
-/// The arrow of what comes, and its label.
-fn came_drawing(alloc: Global, end: End, placed: &Placed) -> Result<Vec<u8>, AllocError>
-    ensures { IfOk result (λ text. text.items ≡ reaching_svg end placed.now ++ late_label_svg end placed.now) }
-{
-    let mut text = Vec::new(alloc);
-    push_reaching(&mut text, end, placed)?;
-    push_late_label(&mut text, end, placed)?;
     Ok(text)
 }
 
@@ -169,10 +148,11 @@ fn push_made(out: &mut Vec<u8>, end: End, key_id: u8, placed: &Placed) -> Result
 fn push_came(out: &mut Vec<u8>, end: End, placed: &Placed) -> Result<(), AllocError>
     ensures { OnOk result (out.new.items ≡ out.old.items ++ titled_tag (codes "came") (colour_text (option_map (λ s. s.key_id) placed.now.start))
         (placed.now.label ++ words_beside placed.now.stroke placed.now.rung)
-        (reaching_svg end placed.now ++ late_label_svg end placed.now)) }
+        (reaching_svg end placed.now)) }
 {
     let title = title_of(*out.allocator(), placed)?;
-    let drawing = came_drawing(*out.allocator(), end, placed)?;
+    let mut drawing = Vec::new(*out.allocator());
+    push_reaching(&mut drawing, end, placed)?;
     let key_id = key_of(placed.start);
     push_titled(out, b"came", key_id, title.as_slice(), drawing.as_slice())
 }
@@ -188,6 +168,35 @@ fn push_rung_arrow(out: &mut Vec<u8>, placed: &Placed) -> Result<(), AllocError>
     }
 }
 
+/// Whether this is the stroke of what comes as it was made, for the first time.
+fn is_whole(stroke: Stroke) -> bool
+    ensures { result ≡ is_whole stroke }
+{
+    match stroke {
+        Stroke::Whole => true,
+        Stroke::Lost => false,
+        Stroke::Again => false,
+        Stroke::Altered => false,
+        Stroke::Injected => false,
+    }
+}
+
+/// The label of what comes, where it stands beside the end.
+fn push_came_label(out: &mut Vec<u8>, placed: &Placed) -> Result<(), AllocError>
+    ensures { OnOk result (out.new.items ≡ out.old.items ++ came_label placed.now placed.now.rung) }
+{
+    match placed.rung {
+        Rung::Came(_, _, _) => {
+            if is_at_once(placed.row, placed.start) && is_whole(placed.stroke) {
+                Ok(())
+            } else {
+                out.extend_from_slice(placed.label.as_slice())
+            }
+        }
+        _ => Ok(()),
+    }
+}
+
 /// The words beside an end.
 fn push_margin_words(out: &mut Vec<u8>, placed: &Placed) -> Result<(), AllocError>
     ensures { OnOk result (out.new.items ≡ out.old.items ++ margin_svg placed.now) }
@@ -198,6 +207,7 @@ fn push_margin_words(out: &mut Vec<u8>, placed: &Placed) -> Result<(), AllocErro
         y: margin_height(placed.row),
     };
     let mut words = Vec::new(*out.allocator());
+    push_came_label(&mut words, placed)?;
     push_beside(&mut words, placed.stroke, &placed.rung)?;
     push_words(out, at, is_same_end(end, End::A), words.as_slice())
 }

@@ -39,8 +39,8 @@ pub(crate) fn end_column(end: End) -> u64
     ensures { result ≡ end_column end }
 {
     match end {
-        End::A => 222,
-        End::B => 578,
+        End::A => 262,
+        End::B => 538,
     }
 }
 
@@ -49,8 +49,8 @@ pub(crate) fn margin_column(end: End) -> u64
     ensures { result ≡ margin_column end }
 {
     match end {
-        End::A => 212,
-        End::B => 588,
+        End::A => 252,
+        End::B => 548,
     }
 }
 
@@ -59,8 +59,8 @@ pub(crate) fn label_column(end: End) -> u64
     ensures { result ≡ label_column end }
 {
     match end {
-        End::A => 232,
-        End::B => 568,
+        End::A => 272,
+        End::B => 528,
     }
 }
 

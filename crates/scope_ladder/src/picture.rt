@@ -125,7 +125,7 @@ fn picture_counted<L: Ledger, I: Source, O: Sink>(
 /// packets that were read before is written, and nothing else. Write comes only where the sink's count of
 /// faults rose: of text with a front part of the last packet's lines written behind all lines before, of a
 /// picture with a front part of it. Memory comes for want of memory, and where a picture would have 2^32
-/// segments or more: of text perhaps without the last packet, of a picture with nothing written.
+/// lines or more: of text perhaps without the last packet, of a picture with nothing written.
 pub fn draw_session<I: Source, O: Sink>(
     alloc: Global,
     form: LadderForm,

@@ -1,8 +1,8 @@
-use Rattle.book_draw_session_svg.proofs.Elements.{each_rung, each_row, whole_picture, whole_text}
+use Rattle.book_draw_session_svg.proofs.Elements.{each_line, each_row, whole_picture, whole_text}
 use Rattle.book_draw_session_svg.proofs.laws.elements_are_those_of_the_session.Goals as goal
 
-pub returns-clause-rungs : goal.returns-clause-rungs
-returns-clause-rungs c = each_rung
+pub returns-clause-lines : goal.returns-clause-lines
+returns-clause-lines c = each_line
 
 pub returns-clause-rows : goal.returns-clause-rows
 returns-clause-rows c = each_row
