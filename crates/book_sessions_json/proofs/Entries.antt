@@ -4,7 +4,8 @@ use Rattle.book_sessions.specs.declared.uses.KeyUse.{KeyUse}
 use Rattle.book_sessions.specs.Retiring.{Evidence}
 use Rattle.book_keys.specs.Rows.{Row, Table}
 use Rattle.book_scope_plan.specs.AdminNames.{KeyFile}
-use Rattle.book_sessions_json.specs.SessionJson.{numbers_to, rows_json, session_json}
+use Rattle.book_sessions.specs.Foreign.{numbers_to}
+use Rattle.book_sessions_json.specs.SessionJson.{rows_json, session_json}
 
 module _ {A : Type 0} (f : ℕ → A) where
   one_more : (xs : List ℕ) (n : ℕ) → length (map f (xs ++ n ∷ [])) ≡ length (map f xs) + 1
@@ -17,6 +18,13 @@ module _ {A : Type 0} (f : ℕ → A) where
 
 pub sessions_length : (uses : List KeyUse) (n : ℕ) → length (map (session_json uses) (numbers_to n)) ≡ n
 sessions_length uses n = numbers_length (session_json uses) n
+
+length_same : {A : Type 0} (f : ℕ → A) (ns : List ℕ) → length (map f ns) ≡ length ns
+length_same f [] = refl
+length_same f (n ∷ ns) = let others = length_same f ns in omega arith
+
+pub listed_length : (uses : List KeyUse) (numbers : List ℕ) → length (map (session_json uses) numbers) ≡ length numbers
+listed_length uses numbers = length_same (session_json uses) numbers
 
 pub rows_length : (keys : KeyFile) (e : Evidence) (t : Table) (n : ℕ) (rows : List Row) → length (rows_json keys e t n rows) ≡ length rows
 rows_length keys e t n [] = refl
