@@ -11,11 +11,12 @@ use Rattle.book_sessions.specs.declared.uses.KeyUse.{KeyUse}
 use Rattle.book_sessions.specs.declared.retiring.MayGo.{MayGo}
 use Rattle.book_sessions.specs.Counts.{all_counted, all_passed}
 use Rattle.book_sessions.specs.KeyLines.{asks_still, last_of}
+use Rattle.book_sessions.specs.Peers.{peers_told}
 use Rattle.book_sessions.specs.Retiring.{Evidence, carries_row, may_go}
 use Rattle.book_sessions.specs.Sessions.{SessionTable}
 use Rattle.book_sessions_json.specs.Json.{json_array, json_comma, json_items, json_member, json_object}
 use Rattle.book_sessions_json.specs.SessionJson.{first_json, key_json, last_json, may_go_json, numbers_to, packets_json, passed_json, rows_json, use_json}
-use Rattle.scope_sessions.specs.JsonParts.{asked_members, id_members, node_members, sender_members, span_members, state_members}
+use Rattle.scope_sessions.specs.JsonParts.{asked_members, id_members, node_members, sender_members, span_members, told_members}
 
 abbrev none : {A : Type 0} → List A → Bool
 none [] = true
@@ -87,17 +88,17 @@ unfolding use_json
 use_done heading u out one two three a b c = object_of_three out one two three (sender_members heading u) (span_members u) (asked_members u) refl a b c
 
 key_by : (keys : KeyFile) (e : Evidence) (t : Table) (n : ℕ) (r : Row) (out one two three : List ℕ) → one ≡ out ++ 123 ∷ json_items true (node_members keys.document t n) → two ≡ one ++ json_items false (id_members r)
-    → three ≡ two ++ (json_items false (state_members (last_of (carries_row t n r) e.uses) (find (asks_still e t n r) e.live) (may_go_json (may_go e keys.tables t n r))) ++ 125 ∷ [])
+    → three ≡ two ++ (json_items false (told_members (last_of (carries_row t n r) e.uses) (find (asks_still e t n r) e.live) (may_go_json (may_go e keys.tables t n r)) (peers_told e t r)) ++ 125 ∷ [])
     → three ≡ out ++ key_json keys e t n r
 unfolding key_json
-key_by keys e t n r out one two three a b c = object_of_three out one two three (node_members keys.document t n) (id_members r) (state_members (last_of (carries_row t n r) e.uses) (find (asks_still e t n r) e.live) (may_go_json (may_go e keys.tables t n r))) refl a b c
+key_by keys e t n r out one two three a b c = object_of_three out one two three (node_members keys.document t n) (id_members r) (told_members (last_of (carries_row t n r) e.uses) (find (asks_still e t n r) e.live) (may_go_json (may_go e keys.tables t n r)) (peers_told e t r)) refl a b c
 
 -- a row, in three parts
-pub key_done : (keys : KeyFile) (e : Evidence) (t : Table) (n : ℕ) (r : Row) (last asking : Option KeyUse) (told : MayGo) (may out one two three : List ℕ) → last ≡ last_of (carries_row t n r) e.uses → asking ≡ find (asks_still e t n r) e.live
-    → told ≡ may_go e keys.tables t n r → may ≡ may_go_json told → one ≡ out ++ 123 ∷ json_items true (node_members keys.document t n) → two ≡ one ++ json_items false (id_members r)
-    → three ≡ two ++ (json_items false (state_members last asking may) ++ 125 ∷ []) → three ≡ out ++ key_json keys e t n r
-key_done keys e t n r last asking told may out one two three last_is asking_is told_is may_is a b c =
-    key_by keys e t n r out one two three a b (rw (may_is, last_is, asking_is, told_is) at c)
+pub key_done : (keys : KeyFile) (e : Evidence) (t : Table) (n : ℕ) (r : Row) (last asking : Option KeyUse) (told : MayGo) (may : List ℕ) (peers : Option ℕ) (out one two three : List ℕ) → last ≡ last_of (carries_row t n r) e.uses → asking ≡ find (asks_still e t n r) e.live
+    → told ≡ may_go e keys.tables t n r → may ≡ may_go_json told → peers ≡ peers_told e t r → one ≡ out ++ 123 ∷ json_items true (node_members keys.document t n) → two ≡ one ++ json_items false (id_members r)
+    → three ≡ two ++ (json_items false (told_members last asking may peers) ++ 125 ∷ []) → three ≡ out ++ key_json keys e t n r
+key_done keys e t n r last asking told may peers out one two three last_is asking_is told_is may_is peers_is a b c =
+    key_by keys e t n r out one two three a b (rw (may_is, last_is, asking_is, told_is, peers_is) at c)
 
 -- the rows of one node more
 keys_first : (keys : KeyFile) (e : Evidence) (tables rest : List Table) (t : Table) (before after all : List ℕ) (first still : Bool) → tables ≡ t ∷ rest → before ++ json_items first (flat_map (λ t. rows_json keys e t 1 t.rows) tables) ≡ all

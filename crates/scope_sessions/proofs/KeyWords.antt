@@ -11,6 +11,7 @@ use Rattle.book_sessions.specs.declared.uses.KeyUse.{KeyUse}
 use Rattle.book_sessions.specs.Counts.{all_counted, all_passed}
 use Rattle.book_sessions.specs.declared.retiring.MayGo.{MayGo}
 use Rattle.book_sessions.specs.KeyLines.{asking_texts, asks_still, key_line, key_lines, keys_lines, last_of, last_texts, obstacle_lines, seen_peers_text}
+use Rattle.book_sessions.specs.Peers.{peers_told}
 use Rattle.book_sessions.specs.Retiring.{Evidence, carries_row, evidence_of, may_go}
 use Rattle.scope_sessions.specs.KeyRows.{found_line}
 use Rattle.book_sessions.specs.Sessions.{SessionTable}
@@ -108,9 +109,9 @@ whole_text keys t out one two mid three four segments others m n a b c d e =
     (append_assoc l (p ++ (u ++ s)) k ∙ ap (λ (x : List ℕ). l ++ x) (append_assoc p (u ++ s) k ∙ ap (λ (x : List ℕ). p ++ x) (append_assoc u s k)))))
 
 -- the line of a row, by what was found of it, and what stands in the way behind it
-pub key_found : {E : Type 0} (result : Result (Unit {0}) E) (keys : KeyFile) (e : Evidence) (t : Table) (n : ℕ) (r : Row) (last asking : Option KeyUse) (may : MayGo) (out mid new : List ℕ)
-    → last ≡ last_of (carries_row t n r) e.uses → asking ≡ find (asks_still e t n r) e.live → may ≡ may_go e keys.tables t n r → mid ≡ out ++ found_line keys.document t n r last asking may
+pub key_found : {E : Type 0} (result : Result (Unit {0}) E) (keys : KeyFile) (e : Evidence) (t : Table) (n : ℕ) (r : Row) (last asking : Option KeyUse) (may : MayGo) (peers : Option ℕ) (out mid new : List ℕ)
+    → last ≡ last_of (carries_row t n r) e.uses → asking ≡ find (asks_still e t n r) e.live → may ≡ may_go e keys.tables t n r → peers ≡ peers_told e t r → mid ≡ out ++ found_line keys.document t n r last asking may peers
     → OnOk result (new ≡ mid ++ obstacle_lines e keys.tables t n r) → OnOk result (new ≡ out ++ key_line keys e t n r)
-key_found (Ok done) keys e t n r last asking may out mid new a b c f h =
-    h ∙ (ap (λ (x : List ℕ). x ++ obstacle_lines e keys.tables t n r) f ∙ (append_assoc out (found_line keys.document t n r last asking may) (obstacle_lines e keys.tables t n r) ∙ rw (a, b, c) refl))
-key_found (Err x) keys e t n r last asking may out mid new a b c f h = tt
+key_found (Ok done) keys e t n r last asking may peers out mid new a b c d f h =
+    h ∙ (ap (λ (x : List ℕ). x ++ obstacle_lines e keys.tables t n r) f ∙ (append_assoc out (found_line keys.document t n r last asking may peers) (obstacle_lines e keys.tables t n r) ∙ rw (a, b, c, d) refl))
+key_found (Err x) keys e t n r last asking may peers out mid new a b c d f h = tt
