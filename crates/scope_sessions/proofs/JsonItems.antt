@@ -15,7 +15,7 @@ use Rattle.book_sessions.specs.Peers.{peers_told}
 use Rattle.book_sessions.specs.Retiring.{Evidence, carries_row, may_go}
 use Rattle.book_sessions.specs.Sessions.{SessionTable}
 use Rattle.book_sessions_json.specs.Json.{json_array, json_comma, json_items, json_member, json_object}
-use Rattle.book_sessions_json.specs.SessionJson.{first_json, key_json, last_json, may_go_json, numbers_to, packets_json, passed_json, rows_json, use_json}
+use Rattle.book_sessions_json.specs.SessionJson.{first_json, key_json, last_json, may_go_json, packets_json, passed_json, rows_json, use_json}
 use Rattle.scope_sessions.specs.JsonParts.{asked_members, id_members, node_members, sender_members, span_members, told_members}
 
 abbrev none : {A : Type 0} → List A → Bool
@@ -113,33 +113,3 @@ keys_more keys e i tables t before after all first still low here so_far more =
     let at_place : t ≡ get_or tables i t = subst (λ (k : ℕ). t ≡ get_or tables k t) place (here t) in
     let cut : drop i tables ≡ t ∷ drop (i + 1) tables = rw (add-one i) (drop-cons tables i t low ∙ ap (λ x. x ∷ drop (suc i) tables) (sym at_place)) in
     keys_first keys e (drop i tables) (drop (i + 1) tables) t before after all first still cut so_far more
-
-none_behind : {A : Type 0} (xs : List A) (x : A) → none (xs ++ x ∷ []) ≡ false
-none_behind [] x = refl
-none_behind (y ∷ ys) x = refl
-
-not_zero : (n : ℕ) → 0 < n → (n == 0) ≡ false
-not_zero n more = grind (arith, nat_tests)
-
-none_numbered : (f : ℕ → List ℕ) (n : ℕ) → none (map f (numbers_to n)) ≡ (n == 0)
-none_numbered f zero = refl
-none_numbered f (suc n) =
-    let more : (suc n == 0) ≡ false = not_zero (suc n) (omega arith) in
-    ap none (map-append f (numbers_to n) (suc n ∷ [])) ∙ (none_behind (map f (numbers_to n)) (f (suc n)) ∙ sym more)
-
-session_last : (f : ℕ → List ℕ) (n : ℕ) → json_items true (map f (numbers_to (suc n))) ≡ json_items true (map f (numbers_to n)) ++ (json_comma (n == 0) ++ f (suc n))
-session_last f n =
-    ap (json_items true) (map-append f (numbers_to n) (suc n ∷ [])) ∙ (items_more true (map f (numbers_to n)) (f (suc n) ∷ [])
-    ∙ (ap (λ (b : Bool). json_items true (map f (numbers_to n)) ++ json_items b (f (suc n) ∷ [])) (none_numbered f n)
-    ∙ ap (λ (z : List ℕ). json_items true (map f (numbers_to n)) ++ (json_comma (n == 0) ++ z)) (append-nil (f (suc n)))))
-
--- one session more
-pub sessions_more : (f : ℕ → List ℕ) (i : ℕ) (out before comma after : List ℕ) → before ≡ out ++ json_items true (map f (numbers_to i)) → comma ≡ before ++ json_comma (i == 0)
-    → after ≡ comma ++ f (i + 1) → after ≡ out ++ json_items true (map f (numbers_to (i + 1)))
-sessions_more f i out before comma after a b c =
-    let first = json_items true (map f (numbers_to i)) in
-    let same : i + 1 ≡ suc i = add-one i in
-    let more : after ≡ comma ++ f (suc i) = rw same at c in
-    rw same (more ∙ (ap (λ (z : List ℕ). z ++ f (suc i)) (b ∙ ap (λ (z : List ℕ). z ++ json_comma (i == 0)) a)
-    ∙ (append_assoc (out ++ first) (json_comma (i == 0)) (f (suc i)) ∙ (append_assoc out first (json_comma (i == 0) ++ f (suc i))
-    ∙ ap (λ (z : List ℕ). out ++ z) (sym (session_last f i))))))

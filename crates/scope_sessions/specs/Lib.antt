@@ -3,7 +3,6 @@ pub mod Given
 pub mod Halts
 pub mod JsonParts
 pub mod KeyRows
-pub mod Listed
 pub mod Reading
 pub mod Texts
 pub mod Writing

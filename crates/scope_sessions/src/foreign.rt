@@ -1,12 +1,11 @@
 //! Which sessions are foreign to a key file, and which of them are listed.
-ghost use Rattle.std.specs.Prelude.{◌≡◌, ◌++◌, ◌∷◌, [], ◌||◌, IfOk, OnOk, codes, decimal, if◌then◌else◌, length, not};
+ghost use Rattle.std.specs.Prelude.{◌≡◌, ◌++◌, ◌∷◌, [], ◌||◌, IfOk, OnOk, codes, decimal, if◌then◌else◌, not};
 ghost use Rattle.std.specs.List.{list_all, list_any};
 ghost use Rattle.book_lines.specs.Texts.{line_text};
 ghost use Rattle.book_sessions.specs.Counts.{all_counted};
-ghost use Rattle.book_sessions.specs.Foreign.{is_apart, is_foreign, is_of_node, is_without_key, segments_of, uses_of};
+ghost use Rattle.book_sessions.specs.Foreign.{foreign_sessions, is_apart, is_foreign, is_of_node, is_without_key, listed_sessions, own_sessions, segments_of, uses_of};
 ghost use Rattle.book_sessions.specs.OutcomeTexts.{is_verified};
-ghost use Rattle.book_sessions.specs.TableTexts.{foreign_line, foreign_lines, has_unverified, is_none, none_line};
-ghost use Rattle.scope_sessions.specs.Listed.{AreNumbers};
+ghost use Rattle.book_sessions.specs.TableTexts.{foreign_line, foreign_lines, has_unverified, none_line};
 
 use crate::table_text::all_counted;
 use ao_base::push_decimal;
@@ -95,7 +94,9 @@ pub(crate) fn numbers_of(
     tables: &Tables,
     index: &SessionIndex,
 ) -> Result<Numbers, AllocError>
-    ensures { IfOk result (λ n. AreNumbers all tables.now index.now n) }
+    ensures listed { IfOk result (λ n. n.listed.items ≡ listed_sessions all tables.now index.now) }
+    ensures own { IfOk result (λ n. n.own.items ≡ own_sessions tables.now index.now) }
+    ensures foreign { IfOk result (λ n. n.foreign.items ≡ foreign_sessions tables.now index.now) }
 {
     let mut listed = Vec::new(alloc);
     let mut own = Vec::new(alloc);
@@ -164,7 +165,7 @@ fn push_none(out: &mut Vec<u8>, own: &[u64]) -> Result<(), AllocError>
 {
     match own {
         [] => out.extend_from_slice(b"no session of the key file\n"),
-        [_, ..] => Ok(()),
+        [_first, _others @ ..] => Ok(()),
     }
 }
 

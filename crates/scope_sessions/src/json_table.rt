@@ -18,7 +18,6 @@ use scope_retiring::Evidence;
 use session_index::SessionIndex;
 use std::alloc::{AllocError, Global};
 
-#[tactic(auto, unfolding(book_sessions_json::specs::SessionJson::foreign_json))]
 fn push_counts(out: &mut Vec<u8>, sessions: u64, segments: u64) -> Result<(), AllocError>
     ensures { OnOk result (out.new.items ≡ out.old.items ++ json_object (json_member (codes "sessions") (decimal sessions)
         ∷ json_member (codes "segments") (decimal segments) ∷ [])) }

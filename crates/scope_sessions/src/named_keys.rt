@@ -164,13 +164,15 @@ fn are_yes(answers: &[MayGo]) -> bool
 fn all_told(answers: &[MayGo]) -> Retiring
     ensures { result ≡ all_told answers.now }
 {
-    if answers.is_empty() {
-        return Retiring::NoSuchRow;
-    }
-    if are_yes(answers) {
-        Retiring::Yes
-    } else {
-        Retiring::NotYes
+    match answers {
+        [] => Retiring::NoSuchRow,
+        [_first, _others @ ..] => {
+            if are_yes(answers) {
+                Retiring::Yes
+            } else {
+                Retiring::NotYes
+            }
+        }
     }
 }
 

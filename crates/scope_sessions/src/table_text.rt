@@ -47,8 +47,14 @@ fn is_none(own: &[u64]) -> bool
 {
     match own {
         [] => true,
-        [_, ..] => false,
+        [_first, _others @ ..] => false,
     }
+}
+
+fn is_one_of_three(unverified: bool, doubtful: bool, none: bool) -> bool
+    ensures { result ≡ ((unverified || doubtful) || none) }
+{
+    (unverified || doubtful) || none
 }
 
 /// Whether a segment of a session that isn't foreign isn't verified, or there is no such session; or a packet that
@@ -64,7 +70,8 @@ pub(crate) fn has_amiss(
     let numbers = numbers_of(alloc, true, tables, index)?;
     let own = numbers.own.as_slice();
     let unverified = have_unverified(alloc, index, own)?;
-    Ok((unverified || has_doubtful(index.passed())) || is_none(own))
+    let doubtful = has_doubtful(index.passed());
+    Ok(is_one_of_three(unverified, doubtful, is_none(own)))
 }
 
 // Puts the line of so many segments without a header checksum behind `out`.
