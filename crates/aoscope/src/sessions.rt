@@ -2,9 +2,8 @@
 use crate::arguments::{flag, isns_file, key_file, option, with_svg};
 use crate::halt::{Halt, end};
 use crate::inputs::{duration, isns, keys_at, required};
-use crate::retire;
-use crate::session_ladder;
 use crate::sessions_page::{ABOUT, AFTER};
+use crate::{retire, session_ladder};
 use ao_base::{ReadSource, WriteSink, read_decimal};
 use clap::{ArgMatches, Command};
 use scope_sessions::{TableForm, TableRequest, write_sessions};

@@ -81,7 +81,11 @@ fn may_go_word(may: MayGo) -> &'static [u8]
 fn peers_word(count: u64) -> &'static [u8]
     ensures { result.now ≡ peers_word count }
 {
-    if count == 1 { b"peer seen" } else { b"peers seen" }
+    if count == 1 {
+        b"peer seen"
+    } else {
+        b"peers seen"
+    }
 }
 
 // Puts behind `out` how many peers were seen, if the row is for any.
@@ -193,7 +197,9 @@ pub(crate) fn push_key(
     let asked = first_asking(evidence, table, number, row);
     let may = may_go(evidence, tables, table, number, row);
     let peers = peers_told(alloc, evidence, table, row)?;
-    push_found(out, document, table, row_number, row, last, asked, may, peers)?;
+    push_found(
+        out, document, table, row_number, row, last, asked, may, peers,
+    )?;
     push_obstacles(out, evidence, tables, table, number, row)
 }
 

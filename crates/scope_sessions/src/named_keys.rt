@@ -191,15 +191,7 @@ pub(crate) fn push_retiring(
 {
     let evidence = Evidence::of(alloc, index)?;
     let mut answers = Vec::new(alloc);
-    push_all_named(
-        alloc,
-        out,
-        &mut answers,
-        word,
-        document,
-        &evidence,
-        tables,
-    )?;
+    push_all_named(alloc, out, &mut answers, word, document, &evidence, tables)?;
     Ok(all_told(answers.as_slice()))
 }
 
