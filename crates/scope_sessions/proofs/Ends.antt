@@ -36,8 +36,8 @@ module _ {A : Type 0} (r : Report A) (s : Series) (given : List ℕ) (a c o p q 
   text_is : r.text (keys_at s.document counted.listener.judging.tables) counted.index ≡ last_text r.text s (capture_of given).packets
   text_is = ap (λ ts. r.text (keys_at s.document ts) counted.index) has.tables_are ∙ ap (r.text (series_keys s)) has.table_is
 
-  answer_is : r.answer (keys_at s.document counted.listener.judging.tables) counted.index ≡ r.answer (series_keys s) (table_in s.judging s.given given)
-  answer_is = ap (λ ts. r.answer (keys_at s.document ts) counted.index) has.tables_are ∙ ap (r.answer (series_keys s)) has.table_is
+  same_answer : r.answer (keys_at s.document counted.listener.judging.tables) counted.index ≡ r.answer (series_keys s) (table_in s.judging s.given given)
+  same_answer = ap (λ ts. r.answer (keys_at s.document ts) counted.index) has.tables_are ∙ ap (r.answer (series_keys s)) has.table_is
 
   all_written : WasWritten (r.text (keys_at s.document counted.listener.judging.tables) counted.index) p q → WasWritten (series_text r.text s (capture_of given).packets) o q
   all_written wrote = took_more (early_text s (capture_of given).packets) (last_text r.text s (capture_of given).packets) o p q before (rw text_is at wrote)
@@ -46,7 +46,7 @@ module _ {A : Type 0} (r : Report A) (s : Series) (given : List ℕ) (a c o p q 
   ends_written (Ok answer) wrote = record {
     is_at_end = rw (wrote.0) at has.whole;
     faultless = sym has.fault_is ∙ wrote.0;
-    answer_is = wrote.1 ∙ answer_is;
+    answer_is = wrote.1 ∙ same_answer;
     wrote = all_written (wrote.2);
   }
   ends_written (Err (halt.Keys fault)) wrote = wrote

@@ -3,7 +3,7 @@ use Rattle.std.proofs.Common.{◌≡◌, ◌≢◌, ℕ, zero, suc, ◌+◌, ◌
 use Rattle.std.proofs.Math.Seq.{drop-cons}
 use Rattle.std.proofs.lemmas.List.{append-nil}
 use Rattle.std.specs.List.{find, flat_map}
-use Rattle.std.specs.Prelude.{codes, cond, decimal}
+use Rattle.std.specs.Prelude.{codes, decimal}
 use Rattle.book_keys.specs.Rows.{Row, Table}
 use Rattle.book_lines.specs.Texts.{line_text, spaced}
 use Rattle.book_scope_plan.specs.AdminNames.{KeyFile}
@@ -15,7 +15,7 @@ use Rattle.book_sessions.specs.Peers.{peers_told}
 use Rattle.book_sessions.specs.Retiring.{Evidence, carries_row, evidence_of, may_go}
 use Rattle.scope_sessions.specs.KeyRows.{found_line}
 use Rattle.book_sessions.specs.Sessions.{SessionTable}
-use Rattle.book_sessions.specs.Foreign.{foreign_sessions, listed_sessions, numbers_where, own_sessions}
+use Rattle.book_sessions.specs.Foreign.{foreign_sessions, listed_sessions, own_sessions}
 use Rattle.book_sessions.specs.SessionTexts.{capture_line, lines_of_session, passed_line, unset_line}
 use Rattle.book_sessions.specs.TableTexts.{foreign_lines, sessions_text}
 
@@ -122,10 +122,3 @@ pub key_found : {E : Type 0} (result : Result (Unit {0}) E) (keys : KeyFile) (e 
 key_found (Ok done) keys e t n r last asking may peers out mid new a b c d f h =
     h ∙ (ap (λ (x : List ℕ). x ++ obstacle_lines e keys.tables t n r) f ∙ (append_assoc out (found_line keys.document t n r last asking may peers) (obstacle_lines e keys.tables t n r) ∙ rw (a, b, c, d) refl))
 key_found (Err x) keys e t n r last asking may peers out mid new a b c d f h = tt
-
--- the chosen numbers, one more session behind them
-pub numbers_more : (chosen : ℕ → Bool) (i : ℕ) (b : Bool) (before after : List ℕ) → before ≡ numbers_where chosen i → b ≡ chosen (i + 1) → after ≡ cond b (before ++ (i + 1) ∷ []) before
-    → after ≡ numbers_where chosen (i + 1)
-numbers_more chosen i b before after so_far is more =
-    let same : i + 1 ≡ suc i = add-one i in
-    more ∙ (rw (so_far, is, same) refl)

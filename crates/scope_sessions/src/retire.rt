@@ -15,16 +15,12 @@ use book_sessions_json::{TableForm, TableRequest};
 use key_table::read_tables;
 use std::alloc::Global;
 
-// No table is asked for in front of a packet.
-fn at_end() -> TableRequest
-    ensures { result ≡ at_end }
-{
-    TableRequest {
-        form: TableForm::Lines,
-        all: false,
-        every: None,
-    }
-}
+/// No table is asked for in front of a packet.
+const AT_END: TableRequest = TableRequest {
+    form: TableForm::Lines,
+    all: false,
+    every: None,
+};
 
 // Writes the lines of the rows that the word names, by what was counted.
 fn write_counted<O: Sink>(
@@ -85,7 +81,7 @@ pub fn write_retiring<I: Source, O: Sink>(
         laps,
         given.as_slice(),
         &document,
-        at_end(),
+        AT_END,
         input,
         out,
     ) {

@@ -8,12 +8,12 @@ use Rattle.scope_sessions.proofs.named_keys.push_rows.Goals as goal
 pub loop-i-preserved : goal.loop-i-preserved
 loop-i-preserved c =
     let keys = keys_at (table_view c.args.document.now) c.args.tables.now in
-    let lines = retire_line c.args.word.now keys c.args.evidence.now c.args.table.now in
-    let answers = retire_answer c.args.word.now keys c.args.evidence.now c.args.table.now in
+    let line_of = retire_line c.args.word.now keys c.args.evidence.now c.args.table.now in
+    let answer_of = retire_answer c.args.word.now keys c.args.evidence.now c.args.table.now in
     let rows = c.entries-rows.result.now in
     record {
-      lines = row_behind lines c.loop-i.i rows c.index-rows-i.result c.loop-i.out.items c.push_named.new.out.items (c.args.out.now.items ++ by_rows lines 1 rows)
+      lines = row_behind line_of c.loop-i.i rows c.index-rows-i.result c.loop-i.out.items c.push_named.new.out.items (c.args.out.now.items ++ by_rows line_of 1 rows)
           c.loop-i-test.true c.index-rows-i.is c.loop-i.invariant.lines c.in_ok-push_named.ensures.lines;
-      answers = row_behind answers c.loop-i.i rows c.index-rows-i.result c.loop-i.answers.items c.push_named.new.answers.items (c.args.answers.now.items ++ by_rows answers 1 rows)
+      answers = row_behind answer_of c.loop-i.i rows c.index-rows-i.result c.loop-i.answers.items c.push_named.new.answers.items (c.args.answers.now.items ++ by_rows answer_of 1 rows)
           c.loop-i-test.true c.index-rows-i.is c.loop-i.invariant.answers c.in_ok-push_named.ensures.answers;
     }
