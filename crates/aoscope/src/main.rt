@@ -9,6 +9,7 @@ mod halt;
 mod inputs;
 mod keys;
 mod plan;
+mod retire;
 mod session_ladder;
 mod sessions;
 mod sessions_page;

@@ -66,10 +66,15 @@ fn draw_by(
     .map_err(|halt| halt_of(number, halt))
 }
 
+/// Whether the words ask for a table too.
+fn asks_for_table(matches: &ArgMatches<'_>) -> bool {
+    matches.get_flag("json") || matches.get_flag("all") || matches.get_str("every").is_some()
+}
+
 /// Draws the session of the capture on standard input that the words ask for by this text; nothing is amiss then.
 pub(crate) fn draw(rt: &HostRuntime, matches: &ArgMatches<'_>, text: &str) -> Result<bool, Halt> {
-    if matches.get_flag("json") || matches.get_str("every").is_some() {
-        return Err(Halt::Usage("--draw goes with neither --json nor --every"));
+    if asks_for_table(matches) {
+        return Err(Halt::Usage("--draw goes with none of --json, --every and --all"));
     }
     let number = read_decimal(text.as_bytes()).ok_or(Halt::IsNo("N", "number of a session"))?;
     let laps = laps(matches)?;

@@ -2,8 +2,8 @@
 use crate::arguments::{flag, isns_file, key_file, option, with_svg};
 use crate::halt::{Halt, end};
 use crate::inputs::{duration, isns, keys_at, required};
-use crate::session_ladder;
 use crate::sessions_page::{ABOUT, AFTER};
+use crate::{retire, session_ladder};
 use ao_base::{ReadSource, WriteSink, read_decimal};
 use clap::{ArgMatches, Command};
 use scope_sessions::{TableForm, TableRequest, write_sessions};
@@ -23,6 +23,8 @@ pub(crate) fn command<'a>(alloc: Global) -> Result<Command<'a>, AllocError> {
     with_svg(word, alloc, "Draw it as a picture in SVG")?
         .arg(key_file(alloc))?
         .arg(isns_file(alloc))?
+        .arg(retire::argument(alloc))?
+        .arg(flag(alloc, "all", "List foreign sessions too"))?
         .arg(flag(alloc, "json", "Write the table as one line of JSON"))?
         .arg(option(alloc, "every", "N", every))?
         .arg(option(alloc, "laps", "N", laps))
@@ -68,6 +70,7 @@ pub(crate) fn laps(matches: &ArgMatches<'_>) -> Result<u32, Halt> {
 fn write_tables(rt: &HostRuntime, matches: &ArgMatches<'_>) -> Result<bool, Halt> {
     let request = TableRequest {
         form: form(matches),
+        all: matches.get_flag("all"),
         every: every(matches)?,
     };
     let laps = laps(matches)?;
@@ -79,10 +82,18 @@ fn write_tables(rt: &HostRuntime, matches: &ArgMatches<'_>) -> Result<bool, Halt
     Ok(write_sessions(rt.alloc(), request, laps, keys, isns, &mut input, &mut out)?)
 }
 
-/// What the word asks for.
-pub(crate) fn run(rt: &HostRuntime, matches: &ArgMatches<'_>) -> u8 {
+/// The table, or a session of it, drawn.
+fn table(rt: &HostRuntime, matches: &ArgMatches<'_>) -> u8 {
     match matches.get_str("draw") {
         Some(text) => end(rt, session_ladder::draw(rt, matches, text)),
         None => end(rt, write_tables(rt, matches)),
+    }
+}
+
+/// What the word asks for.
+pub(crate) fn run(rt: &HostRuntime, matches: &ArgMatches<'_>) -> u8 {
+    match matches.get_str("retire") {
+        Some(word) => retire::run(rt, matches, word),
+        None => table(rt, matches),
     }
 }

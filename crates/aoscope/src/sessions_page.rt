@@ -11,7 +11,12 @@ session there is a line with its sockets, and one for the segments of each direc
 are verified, and for those that aren't, by the reason; md5 in place of key and the KeyID is of segments with TCP \
 MD5 alone, and plain of those with neither. Of each key of the file there is its name, who used it last, \
 whether a peer asks for it, and whether it may go: whether no direction of a session uses it still or asks \
-for it.
+for it. Sessions that are foreign to the file, with neither an address of a node of it nor TCP-AO, are only counted; \
+--all lists them too.
+
+With --retire WORD only the lines of the keys are written whose AdminKeyName is WORD, or that send or accept with \
+the KeyID WORD, 0 to 255, with what stands in their way. Status 0: all of these may go, by what the capture shows; \
+1: one may not, or it isn't known; 2: no key has this name or KeyID; the others as below.
 
 FILE gives the initial sequence numbers of sessions that began before the capture: each line is ADDRESS PORT ISN \
 ADDRESS PORT ISN, each number behind the socket that chose it; an empty line and one \
@@ -29,8 +34,8 @@ its initial sequence numbers. With --laps N a segment whose MAC is wrong as it s
 be below 0, is judged with up to N laps more, the fewest first, each for the price of a MAC. The laps found \
 hold for what follows.
 
-With --json the same table is an object of JSON on one line, for programs: its members are packets, sessions, keys \
-and amiss. Times are strings of RFC 3339 in UTC; a KeyID that isn't there, a key that was never used, one that \
+With --json the same table is an object of JSON on one line, for programs: its members are packets, foreign, sessions, \
+keys and amiss. Times are strings of RFC 3339 in UTC; a KeyID that isn't there, a key that was never used, one that \
 nobody asks for, and whether a key may go where nothing is known of it, are null.
 
 With --every N, seconds or with a unit as in 90s, 10m, 2h, a table is written also while the capture is read: in \
@@ -47,12 +52,14 @@ KeyID and a title with its time to the nanosecond, its sequence number and its a
 dashes is of a segment that isn't verified, and one of short dashes of one that is unconfirmed. It is written when \
 all is read, and its segments are kept until then.
 
-Status 0: all segments are verified; 1: one isn't, or a packet that can't be read may be one; 3: keys; 4: \
-also FILE; the others as above.
+Status 0: all segments of sessions that aren't foreign are verified; 1: one isn't, there is no such session, or a \
+packet that can't be read may be a segment; 3: keys; 4: also FILE; the others as above.
 
     aoscope sessions KEYS < CAPTURE
     aoscope sessions KEYS --isn FILE < CAPTURE
     aoscope sessions KEYS --isn FILE --laps 8 < CAPTURE
+    aoscope sessions KEYS --retire 2026 < CAPTURE
+    aoscope sessions KEYS --all < CAPTURE
     aoscope sessions KEYS --json < CAPTURE
     aoscope sessions KEYS --draw 1 < CAPTURE
     aoscope sessions KEYS --draw 1 --svg < CAPTURE > PICTURE.svg

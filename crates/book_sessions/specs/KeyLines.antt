@@ -1,6 +1,6 @@
 -- The lines of the rows of a key file: who used each last, who asks for it, whether it may go, and
 -- what stands in the way. Our own format. Its top is `keys_lines`.
-use Rattle.std.specs.Prelude.{ℕ, suc, ◌&&◌, nat_lt, Bool, not, true, false, List, [], ◌∷◌}
+use Rattle.std.specs.Prelude.{ℕ, suc, ◌==◌, ◌&&◌, nat_lt, Bool, not, true, false, List, [], ◌∷◌}
 use Rattle.std.specs.Prelude.{◌++◌, codes, decimal, Option, Some, None, if◌then◌else◌}
 use Rattle.std.specs.List.{find, flat_map, list_any}
 use Rattle.toml.specs.Data.{Members}
@@ -15,6 +15,7 @@ use Rattle.book_sessions.specs.declared.retiring.MayGo.{MayGo}
 use Rattle.book_sessions.specs.declared.retiring.MayGo.TheVariants as go
 use Rattle.book_sessions.specs.declared.uses.KeyUse.{KeyUse}
 use Rattle.book_sessions.specs.OutcomeTexts.{is_verified}
+use Rattle.book_sessions.specs.Peers.{peers_told}
 use Rattle.book_sessions.specs.Retiring.{Evidence, all_without, asks_for_row, carries_row}
 use Rattle.book_sessions.specs.Retiring.{goes_from, goes_without, does_without}
 use Rattle.book_sessions.specs.Retiring.{is_at_row, is_of_peer, leaves_use, may_go}
@@ -54,14 +55,14 @@ may_go_text go.Yes = codes "may go yes"
 may_go_text go.No = codes "may go no"
 may_go_text go.Unknown = codes "may go unknown"
 
--- a row that is for any peer: what is said of it holds of those that were seen (own)
-abbrev pub seen_peers_text : Bool → List (List ℕ)
-seen_peers_text any = if any then codes "of the peers seen" ∷ [] else []
+-- one peer, or not one (own)
+abbrev pub peers_word : ℕ → List ℕ
+peers_word n = if n == 1 then codes "peer seen" else codes "peers seen"
 
--- the peer is `any` (RFC 7210, section 2)
-abbrev pub is_any : Option Address → Bool
-is_any None = true
-is_any (Some address) = false
+-- of a row that is for any peer, how many were seen: of these holds what is said of it (own)
+abbrev pub seen_peers_text : Option ℕ → List (List ℕ)
+seen_peers_text None = []
+seen_peers_text (Some n) = codes "of the" ∷ decimal n ∷ peers_word n ∷ []
 
 -- ---- what stands in the way
 
@@ -152,7 +153,7 @@ key_line keys e t n r =
     ∷ codes "send-id" ∷ decimal r.send_id ∷ codes "recv-id" ∷ decimal r.recv_id
     ∷ last_texts (last_of (carries_row t n r) e.uses)
     (asking_texts (find (asks_still e t n r) e.live)
-    (may_go_text (may_go e keys.tables t n r) ∷ seen_peers_text (list_any is_any r.peers))))
+    (may_go_text (may_go e keys.tables t n r) ∷ seen_peers_text (peers_told e t r))))
     ++ obstacle_lines e keys.tables t n r
 
 -- the lines of rows of a node, the first one having number n (own)

@@ -1,12 +1,16 @@
 pub mod AsSent
 pub mod Counts
+pub mod Foreign
 pub mod GivenLines
 pub mod Glimpses
 pub mod KeyLines
 pub mod Laps
 pub mod Listening
+pub mod NamedKeys
 pub mod OutcomeTexts
 pub mod Passing
+pub mod Peers
 pub mod Retiring
 pub mod SessionTexts
 pub mod Sessions
+pub mod TableTexts

@@ -1,20 +1,17 @@
--- A table of sessions as text. Our own format. Its top is `sessions_text`.
-use Rattle.std.specs.Prelude.{ℕ, zero, suc, ◌==◌, ◌&&◌, ◌||◌, min, Bool, not, List, [], ◌∷◌}
+-- The lines of a capture and of its sessions. Our own format. Its tops are `capture_line` and
+-- `lines_of_session`.
+use Rattle.std.specs.Prelude.{ℕ, zero, suc, ◌==◌, ◌&&◌, min, Bool, List, [], ◌∷◌}
 use Rattle.std.specs.Prelude.{◌++◌, codes, decimal, Option, Some, None, if◌then◌else◌}
 use Rattle.std.specs.List.{find, flat_map, list_any}
 use Rattle.book_lines.specs.Texts.{line_text}
-use Rattle.book_scope_plan.specs.AdminNames.{KeyFile}
 use Rattle.book_scope_texts.specs.Addresses.{usual_address_text}
 use Rattle.book_scope_texts.specs.Instants.{instant_text}
 use Rattle.book_sessions.specs.declared.uses.KeyUse.{KeyUse}
 use Rattle.book_sessions.specs.declared.uses.Protection.{Protection}
 use Rattle.book_sessions.specs.declared.uses.Protection.TheVariants as protection
 use Rattle.book_sessions.specs.declared.uses.PassedCount.{PassedCount}
-use Rattle.book_sessions.specs.OutcomeTexts.{outcome_text, passed_text, is_verified, is_doubtful}
-use Rattle.book_sessions.specs.Counts.{all_counted, all_passed}
-use Rattle.book_sessions.specs.KeyLines.{keys_lines}
-use Rattle.book_sessions.specs.Retiring.{evidence_of, latest_seen}
-use Rattle.book_sessions.specs.Sessions.{SessionTable}
+use Rattle.book_sessions.specs.OutcomeTexts.{outcome_text, passed_text, is_verified}
+use Rattle.book_sessions.specs.Retiring.{latest_seen}
 
 -- a KeyID, or a dash where there is none (own)
 abbrev pub id_text : Option ℕ → List ℕ
@@ -85,11 +82,6 @@ lines_of_session uses number =
     heading_line number (list_any (opens_session number) uses) (find (is_of_session number) uses)
     ++ flat_map (use_line_in number) uses
 
--- the lines of the sessions of all numbers up to this one (own)
-abbrev pub sessions_lines : List KeyUse → (last : ℕ) → List ℕ
-sessions_lines uses zero = []
-sessions_lines uses (suc n) = sessions_lines uses n ++ lines_of_session uses (suc n)
-
 -- the line of packets that are passed over for one reason (own)
 abbrev pub passed_line : PassedCount → List ℕ
 passed_line c = line_text (codes "other" ∷ decimal c.packets ∷ passed_text c.why ∷ [])
@@ -98,16 +90,3 @@ passed_line c = line_text (codes "other" ∷ decimal c.packets ∷ passed_text c
 abbrev pub unset_line : ℕ → List ℕ
 unset_line zero = []
 unset_line (suc n) = line_text (codes "ip-checksum" ∷ decimal (suc n) ∷ [])
-
--- the text of a table: the capture, why packets are no segments, how many segments have no header
--- checksum, each session, and each key of the key file (own)
-unfoldable pub sessions_text : KeyFile → SessionTable → List ℕ
-sessions_text keys t =
-    capture_line (all_counted t.uses) (all_passed t.passed) t.uses
-    ++ (flat_map passed_line t.passed ++ (unset_line t.unset ++ (sessions_lines t.uses t.sessions
-    ++ keys_lines keys (evidence_of t))))
-
--- a segment isn't verified, or a packet that is passed over may be one (own)
-unfoldable pub has_amiss : SessionTable → Bool
-has_amiss t = list_any (λ u. not (is_verified u.outcome)) t.uses
-    || list_any (λ c. is_doubtful c.why) t.passed

@@ -11,7 +11,7 @@ mod uses;
 pub use book_cmd_check::GivenIsns;
 pub use laws::{counts_are_those_of_the_verdicts, right_macs_pass_the_check};
 pub use outcome::{PassedOver, SegmentOutcome};
-pub use retiring::{Ending, MayGo, Wanting};
+pub use retiring::{Ending, MayGo, Retiring, Wanting};
 pub use uses::{
     FlowIsns, KeyIds, KeyUse, PassedCount, Protection, SeenBits, SeenPass, SeenSegment, Signs,
 };

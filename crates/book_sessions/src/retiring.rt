@@ -11,6 +11,17 @@ pub enum MayGo {
     Unknown,
 }
 
+/// Whether the rows of a key file that a word names may go.
+#[derive(Clone, Copy, Debug, PartialEq, Eq)]
+pub enum Retiring {
+    /// No row is named so.
+    NoSuchRow,
+    /// All of them may go.
+    Yes,
+    /// One of them is still used, or not known to be unused.
+    NotYes,
+}
+
 /// How a connection ends: whether a verified RST at the number expected was seen; the numbers of the packets
 /// with a FIN of either side that moved on, 0 for none; and that of the last packet that moved on.
 #[derive(Clone, Copy, Debug, PartialEq, Eq)]

@@ -1,6 +1,6 @@
 -- A table of sessions in JSON: what its text says, line for line. Our own format. Its top is
 -- `sessions_json`.
-use Rattle.std.specs.Prelude.{ℕ, zero, suc, List, [], ◌∷◌, ◌++◌, codes}
+use Rattle.std.specs.Prelude.{ℕ, suc, Bool, List, [], ◌∷◌, ◌++◌, codes, length}
 use Rattle.std.specs.Prelude.{decimal, filter, flat_map, map, Option, Some, None}
 use Rattle.std.specs.Prelude.{true, false, if◌then◌else◌}
 use Rattle.std.specs.List.{find, list_any}
@@ -19,10 +19,13 @@ use Rattle.book_sessions.specs.declared.uses.Protection.{Protection}
 use Rattle.book_sessions.specs.declared.uses.Protection.TheVariants as protection
 use Rattle.book_sessions.specs.OutcomeTexts.{outcome_text, passed_text}
 use Rattle.book_sessions.specs.Counts.{all_counted, all_passed}
+use Rattle.book_sessions.specs.Foreign.{foreign_sessions, listed_sessions, segments_of}
 use Rattle.book_sessions.specs.KeyLines.{asks_still, last_of}
+use Rattle.book_sessions.specs.Peers.{peers_told}
 use Rattle.book_sessions.specs.Retiring.{Evidence, carries_row, evidence_of, latest_seen, may_go}
 use Rattle.book_sessions.specs.SessionTexts.{earliest_seen, is_of_session}
-use Rattle.book_sessions.specs.SessionTexts.{opens_session, has_amiss}
+use Rattle.book_sessions.specs.SessionTexts.{opens_session}
+use Rattle.book_sessions.specs.TableTexts.{has_amiss}
 use Rattle.book_sessions.specs.Sessions.{SessionTable}
 use Rattle.book_sessions_json.specs.Json.{json_string, json_array, json_object, json_member}
 use Rattle.book_sessions_json.specs.Json.{json_bool, json_null}
@@ -112,11 +115,6 @@ heading_json uses number (Some u) = json_object (json_member (codes "number") (d
 abbrev pub session_json : List KeyUse → (number : ℕ) → List ℕ
 session_json uses number = heading_json uses number (find (is_of_session number) uses)
 
--- the numbers from 1 to this one (own)
-abbrev pub numbers_to : ℕ → List ℕ
-numbers_to zero = []
-numbers_to (suc n) = numbers_to n ++ suc n ∷ []
-
 -- who sent the last of the segments that carry a row's KeyID, and when (own)
 unfoldable pub last_used_json : Option KeyUse → List ℕ
 last_used_json None = json_null
@@ -137,6 +135,11 @@ may_go_json go.Yes = json_bool true
 may_go_json go.No = json_bool false
 may_go_json go.Unknown = json_null
 
+-- how many peers were seen of a row that is for any peer (own)
+abbrev pub peers_json : Option ℕ → List ℕ
+peers_json None = json_null
+peers_json (Some n) = decimal n
+
 -- what the operator calls a row, if it is named (RFC 7210, section 2, and own)
 abbrev pub name_json : Option (List ℕ) → List ℕ
 name_json None = json_null
@@ -151,7 +154,8 @@ key_json keys e t n r = json_object (json_member (codes "node") (json_string t.n
     ∷ json_member (codes "recv_id") (decimal r.recv_id)
     ∷ json_member (codes "last_used") (last_used_json (last_of (carries_row t n r) e.uses))
     ∷ json_member (codes "asked_for") (asked_for_json (find (asks_still e t n r) e.live))
-    ∷ json_member (codes "may_go") (may_go_json (may_go e keys.tables t n r)) ∷ [])
+    ∷ json_member (codes "may_go") (may_go_json (may_go e keys.tables t n r))
+    ∷ json_member (codes "peers_seen") (peers_json (peers_told e t r)) ∷ [])
 
 -- the rows of a node, the first one having number n (own)
 abbrev pub rows_json : KeyFile → Evidence → Table → (number : ℕ) → List Row → List (List ℕ)
@@ -162,11 +166,17 @@ rows_json keys e t n (r ∷ rs) = key_json keys e t n r ∷ rows_json keys e t (
 abbrev pub keys_json : KeyFile → Evidence → List (List ℕ)
 keys_json keys e = flat_map (λ t. rows_json keys e t 1 t.rows) keys.tables
 
--- a table of sessions: the capture's packets, each session, each key of the key file, and whether
--- anything is amiss; a line feed behind (own)
-unfoldable pub sessions_json : KeyFile → SessionTable → List ℕ
-sessions_json keys t = json_object (json_member (codes "packets") (packets_json t)
+-- the foreign sessions of these numbers: how many they are, and how many segments they have (own)
+unfoldable pub foreign_json : List KeyUse → (numbers : List ℕ) → List ℕ
+foreign_json uses numbers = json_object (json_member (codes "sessions") (decimal (length numbers))
+    ∷ json_member (codes "segments") (decimal (segments_of uses numbers)) ∷ [])
+
+-- a table of sessions: the capture's packets, how many sessions are foreign, each session that is
+-- listed, each key of the key file, and whether anything is amiss; a line feed behind (own)
+unfoldable pub sessions_json : (all : Bool) → KeyFile → SessionTable → List ℕ
+sessions_json all keys t = json_object (json_member (codes "packets") (packets_json t)
+    ∷ json_member (codes "foreign") (foreign_json t.uses (foreign_sessions keys.tables t))
     ∷ json_member (codes "sessions")
-    (json_array (map (session_json t.uses) (numbers_to t.sessions)))
+    (json_array (map (session_json t.uses) (listed_sessions all keys.tables t)))
     ∷ json_member (codes "keys") (json_array (keys_json keys (evidence_of t)))
-    ∷ json_member (codes "amiss") (json_bool (has_amiss t)) ∷ []) ++ 10 ∷ []
+    ∷ json_member (codes "amiss") (json_bool (has_amiss keys.tables t)) ∷ []) ++ 10 ∷ []

@@ -57,7 +57,7 @@ time_line Lines (Some now) = line_text (codes "at" ∷ instant_text now ∷ [])
 -- the table, if one is due (own)
 abbrev pub due_table : TableRequest → KeyFile → SessionTable → (since now : Option ℕ) → List ℕ
 due_table request keys t since now = if is_table_due request.every since now
-    then written_as request.form keys t ++ time_line request.form now else []
+    then written_as request keys t ++ time_line request.form now else []
 
 -- the table of these packets, if one is due (own)
 abbrev pub due_text : Series → List CapturePacket → (since now : Option ℕ) → List ℕ
@@ -75,11 +75,10 @@ due_texts s before since (p ∷ ps) = due_text s before since (second_seen p)
 unfoldable pub early_text : Series → List CapturePacket → List ℕ
 early_text s packets = due_texts s [] None packets
 
--- the table of all packets (own)
-abbrev pub last_text : Series → List CapturePacket → List ℕ
-last_text s packets =
-    written_as s.request.form (series_keys s) (sessions_of s.judging s.given packets)
+-- what is written at the end, by the text of a table (own)
+abbrev pub last_text : (KeyFile → SessionTable → List ℕ) → Series → List CapturePacket → List ℕ
+last_text text s packets = text (series_keys s) (sessions_of s.judging s.given packets)
 
--- all tables, the last one at the end (own)
-abbrev pub series_text : Series → List CapturePacket → List ℕ
-series_text s packets = early_text s packets ++ last_text s packets
+-- all tables that are due in front of a packet, and what is written at the end (own)
+abbrev pub series_text : (KeyFile → SessionTable → List ℕ) → Series → List CapturePacket → List ℕ
+series_text text s packets = early_text s packets ++ last_text text s packets

@@ -49,8 +49,8 @@ fn is_going_on(evidence: &Evidence, one: &KeyUse) -> bool
     one.moved > 0 && !is_followed(evidence, one)
 }
 
-// Whether these are between the node and this peer, and going on.
-fn shows_peer(
+/// Whether these are between the node and this peer, and going on.
+pub(crate) fn shows_peer(
     evidence: &Evidence,
     table: &Table,
     row: &Row,

@@ -11,11 +11,12 @@ use Rattle.book_sessions.specs.declared.uses.KeyUse.{KeyUse}
 use Rattle.book_sessions.specs.declared.retiring.MayGo.{MayGo}
 use Rattle.book_sessions.specs.Counts.{all_counted, all_passed}
 use Rattle.book_sessions.specs.KeyLines.{asks_still, last_of}
+use Rattle.book_sessions.specs.Peers.{peers_told}
 use Rattle.book_sessions.specs.Retiring.{Evidence, carries_row, may_go}
 use Rattle.book_sessions.specs.Sessions.{SessionTable}
 use Rattle.book_sessions_json.specs.Json.{json_array, json_comma, json_items, json_member, json_object}
-use Rattle.book_sessions_json.specs.SessionJson.{first_json, key_json, last_json, may_go_json, numbers_to, packets_json, passed_json, rows_json, use_json}
-use Rattle.scope_sessions.specs.JsonParts.{asked_members, id_members, node_members, sender_members, span_members, state_members}
+use Rattle.book_sessions_json.specs.SessionJson.{first_json, key_json, last_json, may_go_json, packets_json, passed_json, rows_json, use_json}
+use Rattle.scope_sessions.specs.JsonParts.{asked_members, id_members, node_members, sender_members, span_members, told_members}
 
 abbrev none : {A : Type 0} → List A → Bool
 none [] = true
@@ -87,17 +88,17 @@ unfolding use_json
 use_done heading u out one two three a b c = object_of_three out one two three (sender_members heading u) (span_members u) (asked_members u) refl a b c
 
 key_by : (keys : KeyFile) (e : Evidence) (t : Table) (n : ℕ) (r : Row) (out one two three : List ℕ) → one ≡ out ++ 123 ∷ json_items true (node_members keys.document t n) → two ≡ one ++ json_items false (id_members r)
-    → three ≡ two ++ (json_items false (state_members (last_of (carries_row t n r) e.uses) (find (asks_still e t n r) e.live) (may_go_json (may_go e keys.tables t n r))) ++ 125 ∷ [])
+    → three ≡ two ++ (json_items false (told_members (last_of (carries_row t n r) e.uses) (find (asks_still e t n r) e.live) (may_go_json (may_go e keys.tables t n r)) (peers_told e t r)) ++ 125 ∷ [])
     → three ≡ out ++ key_json keys e t n r
 unfolding key_json
-key_by keys e t n r out one two three a b c = object_of_three out one two three (node_members keys.document t n) (id_members r) (state_members (last_of (carries_row t n r) e.uses) (find (asks_still e t n r) e.live) (may_go_json (may_go e keys.tables t n r))) refl a b c
+key_by keys e t n r out one two three a b c = object_of_three out one two three (node_members keys.document t n) (id_members r) (told_members (last_of (carries_row t n r) e.uses) (find (asks_still e t n r) e.live) (may_go_json (may_go e keys.tables t n r)) (peers_told e t r)) refl a b c
 
 -- a row, in three parts
-pub key_done : (keys : KeyFile) (e : Evidence) (t : Table) (n : ℕ) (r : Row) (last asking : Option KeyUse) (told : MayGo) (may out one two three : List ℕ) → last ≡ last_of (carries_row t n r) e.uses → asking ≡ find (asks_still e t n r) e.live
-    → told ≡ may_go e keys.tables t n r → may ≡ may_go_json told → one ≡ out ++ 123 ∷ json_items true (node_members keys.document t n) → two ≡ one ++ json_items false (id_members r)
-    → three ≡ two ++ (json_items false (state_members last asking may) ++ 125 ∷ []) → three ≡ out ++ key_json keys e t n r
-key_done keys e t n r last asking told may out one two three last_is asking_is told_is may_is a b c =
-    key_by keys e t n r out one two three a b (rw (may_is, last_is, asking_is, told_is) at c)
+pub key_done : (keys : KeyFile) (e : Evidence) (t : Table) (n : ℕ) (r : Row) (last asking : Option KeyUse) (told : MayGo) (may : List ℕ) (peers : Option ℕ) (out one two three : List ℕ) → last ≡ last_of (carries_row t n r) e.uses → asking ≡ find (asks_still e t n r) e.live
+    → told ≡ may_go e keys.tables t n r → may ≡ may_go_json told → peers ≡ peers_told e t r → one ≡ out ++ 123 ∷ json_items true (node_members keys.document t n) → two ≡ one ++ json_items false (id_members r)
+    → three ≡ two ++ (json_items false (told_members last asking may peers) ++ 125 ∷ []) → three ≡ out ++ key_json keys e t n r
+key_done keys e t n r last asking told may peers out one two three last_is asking_is told_is may_is peers_is a b c =
+    key_by keys e t n r out one two three a b (rw (may_is, last_is, asking_is, told_is, peers_is) at c)
 
 -- the rows of one node more
 keys_first : (keys : KeyFile) (e : Evidence) (tables rest : List Table) (t : Table) (before after all : List ℕ) (first still : Bool) → tables ≡ t ∷ rest → before ++ json_items first (flat_map (λ t. rows_json keys e t 1 t.rows) tables) ≡ all
@@ -112,33 +113,3 @@ keys_more keys e i tables t before after all first still low here so_far more =
     let at_place : t ≡ get_or tables i t = subst (λ (k : ℕ). t ≡ get_or tables k t) place (here t) in
     let cut : drop i tables ≡ t ∷ drop (i + 1) tables = rw (add-one i) (drop-cons tables i t low ∙ ap (λ x. x ∷ drop (suc i) tables) (sym at_place)) in
     keys_first keys e (drop i tables) (drop (i + 1) tables) t before after all first still cut so_far more
-
-none_behind : {A : Type 0} (xs : List A) (x : A) → none (xs ++ x ∷ []) ≡ false
-none_behind [] x = refl
-none_behind (y ∷ ys) x = refl
-
-not_zero : (n : ℕ) → 0 < n → (n == 0) ≡ false
-not_zero n more = grind (arith, nat_tests)
-
-none_numbered : (f : ℕ → List ℕ) (n : ℕ) → none (map f (numbers_to n)) ≡ (n == 0)
-none_numbered f zero = refl
-none_numbered f (suc n) =
-    let more : (suc n == 0) ≡ false = not_zero (suc n) (omega arith) in
-    ap none (map-append f (numbers_to n) (suc n ∷ [])) ∙ (none_behind (map f (numbers_to n)) (f (suc n)) ∙ sym more)
-
-session_last : (f : ℕ → List ℕ) (n : ℕ) → json_items true (map f (numbers_to (suc n))) ≡ json_items true (map f (numbers_to n)) ++ (json_comma (n == 0) ++ f (suc n))
-session_last f n =
-    ap (json_items true) (map-append f (numbers_to n) (suc n ∷ [])) ∙ (items_more true (map f (numbers_to n)) (f (suc n) ∷ [])
-    ∙ (ap (λ (b : Bool). json_items true (map f (numbers_to n)) ++ json_items b (f (suc n) ∷ [])) (none_numbered f n)
-    ∙ ap (λ (z : List ℕ). json_items true (map f (numbers_to n)) ++ (json_comma (n == 0) ++ z)) (append-nil (f (suc n)))))
-
--- one session more
-pub sessions_more : (f : ℕ → List ℕ) (i : ℕ) (out before comma after : List ℕ) → before ≡ out ++ json_items true (map f (numbers_to i)) → comma ≡ before ++ json_comma (i == 0)
-    → after ≡ comma ++ f (i + 1) → after ≡ out ++ json_items true (map f (numbers_to (i + 1)))
-sessions_more f i out before comma after a b c =
-    let first = json_items true (map f (numbers_to i)) in
-    let same : i + 1 ≡ suc i = add-one i in
-    let more : after ≡ comma ++ f (suc i) = rw same at c in
-    rw same (more ∙ (ap (λ (z : List ℕ). z ++ f (suc i)) (b ∙ ap (λ (z : List ℕ). z ++ json_comma (i == 0)) a)
-    ∙ (append_assoc (out ++ first) (json_comma (i == 0)) (f (suc i)) ∙ (append_assoc out first (json_comma (i == 0) ++ f (suc i))
-    ∙ ap (λ (z : List ℕ). out ++ z) (sym (session_last f i))))))

@@ -11,10 +11,13 @@ use Rattle.book_sessions.specs.declared.uses.KeyUse.{KeyUse}
 use Rattle.book_sessions.specs.Counts.{all_counted, all_passed}
 use Rattle.book_sessions.specs.declared.retiring.MayGo.{MayGo}
 use Rattle.book_sessions.specs.KeyLines.{asking_texts, asks_still, key_line, key_lines, keys_lines, last_of, last_texts, obstacle_lines, seen_peers_text}
+use Rattle.book_sessions.specs.Peers.{peers_told}
 use Rattle.book_sessions.specs.Retiring.{Evidence, carries_row, evidence_of, may_go}
 use Rattle.scope_sessions.specs.KeyRows.{found_line}
 use Rattle.book_sessions.specs.Sessions.{SessionTable}
-use Rattle.book_sessions.specs.SessionTexts.{capture_line, passed_line, sessions_lines, sessions_text, unset_line}
+use Rattle.book_sessions.specs.Foreign.{foreign_sessions, listed_sessions, own_sessions}
+use Rattle.book_sessions.specs.SessionTexts.{capture_line, lines_of_session, passed_line, unset_line}
+use Rattle.book_sessions.specs.TableTexts.{foreign_lines, sessions_text}
 
 spaced_more : (xs ys : List (List ℕ)) → spaced (xs ++ ys) ≡ spaced xs ++ spaced ys
 spaced_more [] ys = refl
@@ -87,30 +90,35 @@ unset_told zero some = absurd (some refl)
 unset_told (suc n) some = refl
 
 -- the whole text, one part behind another
-pub whole_text : (keys : KeyFile) (t : SessionTable) (out one two mid three four : List ℕ) (segments others : ℕ) → segments ≡ all_counted t.uses → others ≡ all_passed t.passed → one ≡ out ++ capture_line segments others t.uses
-    → two ≡ one ++ flat_map passed_line t.passed → mid ≡ two ++ unset_line t.unset → three ≡ mid ++ sessions_lines t.uses t.sessions → four ≡ three ++ keys_lines keys (evidence_of t) → four ≡ out ++ sessions_text keys t
+pub whole_text : (all : Bool) (keys : KeyFile) (t : SessionTable) (listed own foreign out one two mid three four : List ℕ) (segments others : ℕ) → segments ≡ all_counted t.uses → others ≡ all_passed t.passed
+    → listed ≡ listed_sessions all keys.tables t → own ≡ own_sessions keys.tables t → foreign ≡ foreign_sessions keys.tables t → one ≡ out ++ capture_line segments others t.uses
+    → two ≡ one ++ flat_map passed_line t.passed → mid ≡ two ++ unset_line t.unset → three ≡ mid ++ (foreign_lines t.uses foreign own ++ flat_map (lines_of_session t.uses) listed) → four ≡ three ++ keys_lines keys (evidence_of t)
+    → four ≡ out ++ sessions_text all keys t
 unfolding sessions_text
-whole_text keys t out one two mid three four segments others m n a b c d e =
+whole_text all keys t listed own foreign out one two mid three four segments others m n listed_are own_are foreign_are a b c d e =
     let l = capture_line (all_counted t.uses) (all_passed t.passed) t.uses in
     let p = flat_map passed_line t.passed in
     let u = unset_line t.unset in
-    let s = sessions_lines t.uses t.sessions in
+    let f = foreign_lines t.uses (foreign_sessions keys.tables t) (own_sessions keys.tables t) in
+    let s = flat_map (lines_of_session t.uses) (listed_sessions all keys.tables t) in
     let k = keys_lines keys (evidence_of t) in
     let first : one ≡ out ++ l = rw (m, n) at a in
+    let told : three ≡ mid ++ (f ++ s) = rw (listed_are, own_are, foreign_are) at d in
     let second : two ≡ out ++ (l ++ p) = b ∙ (ap (λ (x : List ℕ). x ++ p) first ∙ append_assoc out l p) in
     let between : mid ≡ out ++ (l ++ (p ++ u)) = c ∙ (ap (λ (x : List ℕ). x ++ u) second ∙ (append_assoc out (l ++ p) u ∙ ap (λ (x : List ℕ). out ++ x) (append_assoc l p u))) in
-    let third : three ≡ out ++ (l ++ (p ++ (u ++ s))) =
-    d ∙ (ap (λ (x : List ℕ). x ++ s) between ∙ (append_assoc out (l ++ (p ++ u)) s ∙ ap (λ (x : List ℕ). out ++ x) (append_assoc l (p ++ u) s ∙ ap (λ (x : List ℕ). l ++ x) (append_assoc p u s)))) in
+    let third : three ≡ out ++ (l ++ (p ++ (u ++ (f ++ s)))) =
+    told ∙ (ap (λ (x : List ℕ). x ++ (f ++ s)) between ∙ (append_assoc out (l ++ (p ++ u)) (f ++ s) ∙ ap (λ (x : List ℕ). out ++ x) (append_assoc l (p ++ u) (f ++ s) ∙ ap (λ (x : List ℕ). l ++ x) (append_assoc p u (f ++ s))))) in
     e
     ∙ (ap (λ (x : List ℕ). x ++ k) third
-    ∙ (append_assoc out (l ++ (p ++ (u ++ s))) k
+    ∙ (append_assoc out (l ++ (p ++ (u ++ (f ++ s)))) k
     ∙ ap (λ (x : List ℕ). out ++ x)
-    (append_assoc l (p ++ (u ++ s)) k ∙ ap (λ (x : List ℕ). l ++ x) (append_assoc p (u ++ s) k ∙ ap (λ (x : List ℕ). p ++ x) (append_assoc u s k)))))
+    (append_assoc l (p ++ (u ++ (f ++ s))) k ∙ ap (λ (x : List ℕ). l ++ x) (append_assoc p (u ++ (f ++ s)) k
+    ∙ ap (λ (x : List ℕ). p ++ x) (append_assoc u (f ++ s) k ∙ ap (λ (x : List ℕ). u ++ x) (append_assoc f s k))))))
 
 -- the line of a row, by what was found of it, and what stands in the way behind it
-pub key_found : {E : Type 0} (result : Result (Unit {0}) E) (keys : KeyFile) (e : Evidence) (t : Table) (n : ℕ) (r : Row) (last asking : Option KeyUse) (may : MayGo) (out mid new : List ℕ)
-    → last ≡ last_of (carries_row t n r) e.uses → asking ≡ find (asks_still e t n r) e.live → may ≡ may_go e keys.tables t n r → mid ≡ out ++ found_line keys.document t n r last asking may
+pub key_found : {E : Type 0} (result : Result (Unit {0}) E) (keys : KeyFile) (e : Evidence) (t : Table) (n : ℕ) (r : Row) (last asking : Option KeyUse) (may : MayGo) (peers : Option ℕ) (out mid new : List ℕ)
+    → last ≡ last_of (carries_row t n r) e.uses → asking ≡ find (asks_still e t n r) e.live → may ≡ may_go e keys.tables t n r → peers ≡ peers_told e t r → mid ≡ out ++ found_line keys.document t n r last asking may peers
     → OnOk result (new ≡ mid ++ obstacle_lines e keys.tables t n r) → OnOk result (new ≡ out ++ key_line keys e t n r)
-key_found (Ok done) keys e t n r last asking may out mid new a b c f h =
-    h ∙ (ap (λ (x : List ℕ). x ++ obstacle_lines e keys.tables t n r) f ∙ (append_assoc out (found_line keys.document t n r last asking may) (obstacle_lines e keys.tables t n r) ∙ rw (a, b, c) refl))
-key_found (Err x) keys e t n r last asking may out mid new a b c f h = tt
+key_found (Ok done) keys e t n r last asking may peers out mid new a b c d f h =
+    h ∙ (ap (λ (x : List ℕ). x ++ obstacle_lines e keys.tables t n r) f ∙ (append_assoc out (found_line keys.document t n r last asking may peers) (obstacle_lines e keys.tables t n r) ∙ rw (a, b, c, d) refl))
+key_found (Err x) keys e t n r last asking may peers out mid new a b c d f h = tt

@@ -3,6 +3,7 @@ pub mod Ends
 pub mod GivenLaws
 pub mod JsonItems
 pub mod KeyWords
+pub mod NamedRows
 pub mod Options
 pub mod OwnLaws
 pub mod Walk

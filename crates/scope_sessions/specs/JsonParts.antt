@@ -6,7 +6,7 @@ use Rattle.book_keys.specs.Rows.{Row, Table}
 use Rattle.book_sessions.specs.declared.uses.KeyUse.{KeyUse}
 use Rattle.book_sessions.specs.OutcomeTexts.{outcome_text}
 use Rattle.book_sessions_json.specs.Json.{json_member, json_string}
-use Rattle.book_sessions_json.specs.SessionJson.{address_json, asked_for_json, id_json, last_used_json, name_json}
+use Rattle.book_sessions_json.specs.SessionJson.{address_json, asked_for_json, id_json, last_used_json, name_json, peers_json}
 use Rattle.book_sessions_json.specs.SessionJson.{protection_word, sender_place, time_json}
 
 -- of segments: who sent them, under which KeyID, and how they are protected
@@ -58,3 +58,10 @@ abbrev pub state_members : (last asking : Option KeyUse) → (may : List ℕ) �
 state_members last asking may = json_member (codes "last_used") (last_used_json last)
     ∷ json_member (codes "asked_for") (asked_for_json asking)
     ∷ json_member (codes "may_go") may ∷ []
+
+-- of a row: the same, and how many peers were seen
+abbrev pub told_members : (last asking : Option KeyUse) → (may : List ℕ) → (peers : Option ℕ) → List (List ℕ)
+told_members last asking may peers = json_member (codes "last_used") (last_used_json last)
+    ∷ json_member (codes "asked_for") (asked_for_json asking)
+    ∷ json_member (codes "may_go") may
+    ∷ json_member (codes "peers_seen") (peers_json peers) ∷ []

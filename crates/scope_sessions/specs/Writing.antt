@@ -1,5 +1,5 @@
 -- What is read of a capture and written of it (own). Its top is `Writes`.
-use Rattle.std.specs.Prelude.{◌≡◌, ◌⊎◌, ℕ, ◌<◌, Bool, List, [], ◌++◌, length, Option, Some, None, Result, Ok, Err}
+use Rattle.std.specs.Prelude.{◌≡◌, ◌⊎◌, ℕ, ◌<◌, Bool, false, List, [], ◌++◌, length, Option, Some, None, Result, Ok, Err}
 use Rattle.std.specs.List.{All}
 use Rattle.toml.specs.Data.{Members}
 use Rattle.ao_base.specs.Outside.{Side, Gave, WasWritten, Rose, IsAtEnd, told}
@@ -12,12 +12,15 @@ use Rattle.book_keys.specs.declared.fault.TableFault.{TableFault}
 use Rattle.book_scope_plan.specs.AdminNames.{KeyFile}
 use Rattle.book_sessions.specs.GivenLines.{given_isns_of}
 use Rattle.book_sessions.specs.Laps.{Judging}
+use Rattle.book_sessions.specs.declared.retiring.Retiring.{Retiring}
+use Rattle.book_sessions.specs.NamedKeys.{retire_lines, retiring_of}
+use Rattle.book_sessions.specs.Retiring.{evidence_of}
 use Rattle.book_sessions.specs.Sessions.{SessionTable, sessions_of}
-use Rattle.book_sessions.specs.SessionTexts.{has_amiss}
-use Rattle.book_sessions_json.specs.declared.form.TableForm.{TableForm}
+use Rattle.book_sessions.specs.TableTexts.{has_amiss}
+use Rattle.book_sessions_json.specs.declared.form.TableForm.TheVariants.{Lines}
 use Rattle.book_sessions_json.specs.declared.form.TableRequest.{TableRequest}
 use Rattle.book_sessions_json.specs.Forms.{written_as}
-use Rattle.book_sessions_json.specs.TableSeries.{Series, early_text, series_text}
+use Rattle.book_sessions_json.specs.TableSeries.{Series, early_text, series_keys, series_text}
 use Rattle.book_base.specs.Hexadecimal.{IsByte}
 use Rattle.capture_stream.specs.Reads.{most_read}
 use Rattle.scope_lines.specs.Writes.{HasRead}
@@ -28,69 +31,89 @@ use Rattle.scope_sessions.specs.Halts.{Nothing, key_file_in, keys_at}
 use Rattle.scope_sessions.specs.Reading.{BreaksEarly, IsWhole, Lacks, Stops, series_of}
 use Rattle.scope_sessions.specs.Texts.{BreaksText}
 
+-- what is written of a table at the end, and what is answered of it, by a key file (own)
+pub record Report (A : Type 0) : Type 0 where
+  pub text : KeyFile → SessionTable → List ℕ
+  pub answer : KeyFile → SessionTable → A
+
+-- the table that is asked for, and whether anything in it is amiss (own)
+abbrev pub table_report : TableRequest → Report Bool
+table_report request = record { text = written_as request; answer = λ keys t. has_amiss keys.tables t }
+
+-- the key lines of the rows that a word names, and whether all of them may go (own)
+abbrev pub retire_report : (word : List ℕ) → Report Retiring
+retire_report word = record {
+  text = λ keys t. retire_lines word keys (evidence_of t);
+  answer = λ keys t. retiring_of word keys (evidence_of t);
+}
+
+-- no table is asked for in front of a packet (own)
+abbrev pub at_end : TableRequest
+at_end = record { form = Lines; all = false; every = None }
+
 -- the table of the packets of a capture (own)
 abbrev pub table_in : Judging → List GivenIsns → List ℕ → SessionTable
 table_in j isns given = sessions_of j isns (capture_of given).packets
 
--- the whole capture was read, and its tables written (own)
-pub record Finishes (s : Series) (given : List ℕ) (source_now out_before out_now : Side) (amiss : Bool) : Type 0 where
-  pub at_end : IsAtEnd source_now
+-- the whole capture was read, and what is reported of it written (own)
+pub record Finishes {A : Type 0} (r : Report A) (s : Series) (given : List ℕ) (source_now out_before out_now : Side) (answer : A) : Type 0 where
+  pub is_at_end : IsAtEnd source_now
   pub faultless : (capture_of given).fault ≡ None
-  pub amiss_is : amiss ≡ has_amiss (table_in s.judging s.given given)
-  pub wrote : WasWritten (series_text s (capture_of given).packets) out_before out_now
+  pub answer_is : answer ≡ r.answer (series_keys s) (table_in s.judging s.given given)
+  pub wrote : WasWritten (series_text r.text s (capture_of given).packets) out_before out_now
 
--- the capture has this fault, whatever follows in the source: the tables of the packets before it were written (own)
-pub record Refuses (s : Series) (given : List ℕ) (source_now out_before out_now : Side) (fault : CaptureFault) : Type 0 where
+-- the capture has this fault, whatever follows in the source: what is reported of the packets before it was written (own)
+pub record Refuses {A : Type 0} (r : Report A) (s : Series) (given : List ℕ) (source_now out_before out_now : Side) (fault : CaptureFault) : Type 0 where
   pub has_read : HasRead given (capture_of given).packets
   pub fault_is : (capture_of given).fault ≡ Some fault
   pub all : capture_of (given ++ told source_now.bytes) ≡ capture_of given
-  pub wrote : WasWritten (series_text s (capture_of given).packets) out_before out_now
+  pub wrote : WasWritten (series_text r.text s (capture_of given).packets) out_before out_now
 
 -- a write failed, behind the capture's end or its fault (own)
-pub record BreaksLast (s : Series) (given : List ℕ) (source_now out_before out_now : Side) : Type 0 where
+pub record BreaksLast {A : Type 0} (r : Report A) (s : Series) (given : List ℕ) (source_now out_before out_now : Side) : Type 0 where
   pub whole : IsWhole given source_now (capture_of given).fault
-  pub breaks : BreaksText (early_text s (capture_of given).packets) (series_text s (capture_of given).packets) out_before out_now
+  pub breaks : BreaksText (early_text s (capture_of given).packets) (series_text r.text s (capture_of given).packets) out_before out_now
 
--- how each end comes, where these tables are asked for (own)
-abbrev pub Ends : Series → List ℕ → (source_before source_now out_before out_now : Side) → Result Bool JudgingHalt → Type 0
-Ends s given source_before source_now out_before out_now (Ok amiss) = Finishes s given source_now out_before out_now amiss
-Ends s given source_before source_now out_before out_now (Err (halt.Keys fault)) = ⊥
-Ends s given source_before source_now out_before out_now (Err (halt.IsnLine n kind)) = ⊥
-Ends s given source_before source_now out_before out_now (Err halt.TooManyIsns) = ⊥
-Ends s given source_before source_now out_before out_now (Err (halt.Broken fault)) = Refuses s given source_now out_before out_now fault
-Ends s given source_before source_now out_before out_now (Err halt.TooLong) = (most_read < length given) × Stops s given out_before out_now
-Ends s given source_before source_now out_before out_now (Err halt.Read) = Rose source_before source_now × Stops s given out_before out_now
-Ends s given source_before source_now out_before out_now (Err halt.Write) = BreaksEarly s given out_before out_now ⊎ BreaksLast s given source_now out_before out_now
-Ends s given source_before source_now out_before out_now (Err halt.Memory) = Lacks s given out_before out_now
+-- how each end comes, where this is reported (own)
+abbrev pub Ends : {A : Type 0} → Report A → Series → List ℕ → (source_before source_now out_before out_now : Side) → Result A JudgingHalt → Type 0
+Ends r s given source_before source_now out_before out_now (Ok answer) = Finishes r s given source_now out_before out_now answer
+Ends r s given source_before source_now out_before out_now (Err (halt.Keys fault)) = ⊥
+Ends r s given source_before source_now out_before out_now (Err (halt.IsnLine n kind)) = ⊥
+Ends r s given source_before source_now out_before out_now (Err halt.TooManyIsns) = ⊥
+Ends r s given source_before source_now out_before out_now (Err (halt.Broken fault)) = Refuses r s given source_now out_before out_now fault
+Ends r s given source_before source_now out_before out_now (Err halt.TooLong) = (most_read < length given) × Stops s given out_before out_now
+Ends r s given source_before source_now out_before out_now (Err halt.Read) = Rose source_before source_now × Stops s given out_before out_now
+Ends r s given source_before source_now out_before out_now (Err halt.Write) = BreaksEarly s given out_before out_now ⊎ BreaksLast r s given source_now out_before out_now
+Ends r s given source_before source_now out_before out_now (Err halt.Memory) = Lacks s given out_before out_now
 
 -- how each end comes by a key file: given lines that are refused end all before the capture is read (own)
-abbrev pub EndsWith : TableRequest → (laps : ℕ) → KeyFile → Result (List GivenIsns) TextFault → List ℕ → (source_before source_now out_before out_now : Side) → Result Bool JudgingHalt → Type 0
-EndsWith request laps keys (Ok isns) given source_before source_now out_before out_now result = Ends (series_of keys.document keys.tables laps isns request) given source_before source_now out_before out_now result
-EndsWith request laps keys (Err why) given source_before source_now out_before out_now (Err (halt.IsnLine n kind)) = (why ≡ line_fault.Line n kind) × Nothing given out_before out_now
-EndsWith request laps keys (Err why) given source_before source_now out_before out_now (Err halt.TooManyIsns) = (why ≡ line_fault.TooManyLines) × Nothing given out_before out_now
-EndsWith request laps keys (Err why) given source_before source_now out_before out_now (Err halt.Memory) = Nothing given out_before out_now
-EndsWith request laps keys (Err why) given source_before source_now out_before out_now other = ⊥
+abbrev pub EndsWith : {A : Type 0} → Report A → TableRequest → (laps : ℕ) → KeyFile → Result (List GivenIsns) TextFault → List ℕ → (source_before source_now out_before out_now : Side) → Result A JudgingHalt → Type 0
+EndsWith r request laps keys (Ok isns) given source_before source_now out_before out_now result = Ends r (series_of keys.document keys.tables laps isns request) given source_before source_now out_before out_now result
+EndsWith r request laps keys (Err why) given source_before source_now out_before out_now (Err (halt.IsnLine n kind)) = (why ≡ line_fault.Line n kind) × Nothing given out_before out_now
+EndsWith r request laps keys (Err why) given source_before source_now out_before out_now (Err halt.TooManyIsns) = (why ≡ line_fault.TooManyLines) × Nothing given out_before out_now
+EndsWith r request laps keys (Err why) given source_before source_now out_before out_now (Err halt.Memory) = Nothing given out_before out_now
+EndsWith r request laps keys (Err why) given source_before source_now out_before out_now other = ⊥
 
 -- how each end comes: a key file that is refused ends all before the capture is read (own)
-abbrev pub EndsBy : TableRequest → (laps : ℕ) → Result KeyFile TableFault → Result (List GivenIsns) TextFault → List ℕ → (source_before source_now out_before out_now : Side) → Result Bool JudgingHalt → Type 0
-EndsBy request laps (Ok keys) isns given source_before source_now out_before out_now result = EndsWith request laps keys isns given source_before source_now out_before out_now result
-EndsBy request laps (Err why) isns given source_before source_now out_before out_now (Err (halt.Keys fault)) = (fault ≡ why) × Nothing given out_before out_now
-EndsBy request laps (Err why) isns given source_before source_now out_before out_now (Err halt.Memory) = Nothing given out_before out_now
-EndsBy request laps (Err why) isns given source_before source_now out_before out_now other = ⊥
+abbrev pub EndsBy : {A : Type 0} → Report A → TableRequest → (laps : ℕ) → Result KeyFile TableFault → Result (List GivenIsns) TextFault → List ℕ → (source_before source_now out_before out_now : Side) → Result A JudgingHalt → Type 0
+EndsBy r request laps (Ok keys) isns given source_before source_now out_before out_now result = EndsWith r request laps keys isns given source_before source_now out_before out_now result
+EndsBy r request laps (Err why) isns given source_before source_now out_before out_now (Err (halt.Keys fault)) = (fault ≡ why) × Nothing given out_before out_now
+EndsBy r request laps (Err why) isns given source_before source_now out_before out_now (Err halt.Memory) = Nothing given out_before out_now
+EndsBy r request laps (Err why) isns given source_before source_now out_before out_now other = ⊥
 
--- the tables of a capture are written that are asked for, of which the source gave these bytes, by the key file of this text and the given lines of that one (own)
-pub record Writes (request : TableRequest) (laps : ℕ) (keys isns given : List ℕ) (source_before source_now out_before out_now : Side) (result : Result Bool JudgingHalt) : Type 0 where
+-- what is reported of a capture is written, and the tables that are asked for in front of packets, of which the source gave these bytes, by the key file of this text and the given lines of that one (own)
+pub record Writes {A : Type 0} (r : Report A) (request : TableRequest) (laps : ℕ) (keys isns given : List ℕ) (source_before source_now out_before out_now : Side) (result : Result A JudgingHalt) : Type 0 where
   pub gave : Gave given source_before source_now
   pub bytes : All IsByte given
-  pub ends : EndsBy request laps (key_file_in keys) (given_isns_of isns) given source_before source_now out_before out_now result
+  pub ends : EndsBy r request laps (key_file_in keys) (given_isns_of isns) given source_before source_now out_before out_now result
 
--- the last table, that of what was counted, is written
-abbrev pub WritesCounted : TableForm → Members → Counted → (out_before out_now : Side) → Result Bool JudgingHalt → Type 0
-WritesCounted form document counted out_before out_now (Ok amiss) = (counted.fault ≡ None) × (amiss ≡ has_amiss counted.index)
-    × WasWritten (written_as form (keys_at document counted.listener.judging.tables) counted.index) out_before out_now
-WritesCounted form document counted out_before out_now (Err (halt.Broken fault)) = (counted.fault ≡ Some fault)
-    × WasWritten (written_as form (keys_at document counted.listener.judging.tables) counted.index) out_before out_now
-WritesCounted form document counted out_before out_now (Err halt.Write) =
-    BreaksText [] (written_as form (keys_at document counted.listener.judging.tables) counted.index) out_before out_now
-WritesCounted form document counted out_before out_now (Err halt.Memory) = WasWritten [] out_before out_now
-WritesCounted form document counted out_before out_now (Err other) = ⊥
+-- what is reported of what was counted is written
+abbrev pub WritesCounted : {A : Type 0} → Report A → Members → Counted → (out_before out_now : Side) → Result A JudgingHalt → Type 0
+WritesCounted r document counted out_before out_now (Ok answer) = (counted.fault ≡ None) × (answer ≡ r.answer (keys_at document counted.listener.judging.tables) counted.index)
+    × WasWritten (r.text (keys_at document counted.listener.judging.tables) counted.index) out_before out_now
+WritesCounted r document counted out_before out_now (Err (halt.Broken fault)) = (counted.fault ≡ Some fault)
+    × WasWritten (r.text (keys_at document counted.listener.judging.tables) counted.index) out_before out_now
+WritesCounted r document counted out_before out_now (Err halt.Write) =
+    BreaksText [] (r.text (keys_at document counted.listener.judging.tables) counted.index) out_before out_now
+WritesCounted r document counted out_before out_now (Err halt.Memory) = WasWritten [] out_before out_now
+WritesCounted r document counted out_before out_now (Err other) = ⊥

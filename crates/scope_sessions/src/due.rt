@@ -71,20 +71,20 @@ pub(crate) fn counted_since(every: Option<u64>, since: Option<u64>, now: Option<
     }
 }
 
-/// Puts the table of what was counted behind `text`, in this form.
+/// Puts the table of what was counted behind `text`, as it is asked for.
 pub(crate) fn push_form(
     alloc: Global,
-    form: TableForm,
+    request: TableRequest,
     text: &mut Vec<u8>,
     document: &toml::Table,
     tables: &Tables,
     index: &SessionIndex,
 ) -> Result<(), AllocError>
-    ensures { OnOk result (text.new.items ≡ text.old.items ++ written_as form (keys_at (table_view document.now) tables.now) index.now) }
+    ensures { OnOk result (text.new.items ≡ text.old.items ++ written_as request (keys_at (table_view document.now) tables.now) index.now) }
 {
-    match form {
-        TableForm::Lines => push_table(alloc, text, document, tables, index),
-        TableForm::Json => push_json(alloc, text, document, tables, index),
+    match request.form {
+        TableForm::Lines => push_table(alloc, request.all, text, document, tables, index),
+        TableForm::Json => push_json(alloc, request.all, text, document, tables, index),
     }
 }
 
@@ -108,17 +108,17 @@ fn push_end(text: &mut Vec<u8>, form: TableForm, now: Option<u64>) -> Result<(),
 // Puts a table and the line that ends it behind `text`.
 fn push_due(
     alloc: Global,
-    form: TableForm,
+    request: TableRequest,
     text: &mut Vec<u8>,
     document: &toml::Table,
     tables: &Tables,
     index: &SessionIndex,
     now: Option<u64>,
 ) -> Result<(), AllocError>
-    ensures { OnOk result (text.new.items ≡ text.old.items ++ (written_as form (keys_at (table_view document.now) tables.now) index.now ++ time_line form now)) }
+    ensures { OnOk result (text.new.items ≡ text.old.items ++ (written_as request (keys_at (table_view document.now) tables.now) index.now ++ time_line request.form now)) }
 {
-    push_form(alloc, form, text, document, tables, index)?;
-    push_end(text, form, now)
+    push_form(alloc, request, text, document, tables, index)?;
+    push_end(text, request.form, now)
 }
 
 // Writes this text.
@@ -134,17 +134,17 @@ fn write_text<O: Sink>(text: &[u8], out: &mut O) -> Result<(), TextHalt>
 // Writes a table and the line that ends it.
 fn write_table<O: Sink>(
     alloc: Global,
-    form: TableForm,
+    request: TableRequest,
     document: &toml::Table,
     tables: &Tables,
     index: &SessionIndex,
     now: Option<u64>,
     out: &mut O,
 ) -> Result<(), TextHalt>
-    ensures { WritesText (written_as form (keys_at (table_view document.now) tables.now) index.now ++ time_line form now) (O.side out.old) (O.side out.new) result }
+    ensures { WritesText (written_as request (keys_at (table_view document.now) tables.now) index.now ++ time_line request.form now) (O.side out.old) (O.side out.new) result }
 {
     let mut text = Vec::new(alloc);
-    match push_due(alloc, form, &mut text, document, tables, index, now) {
+    match push_due(alloc, request, &mut text, document, tables, index, now) {
         Ok(()) => write_text(text.as_slice(), out),
         Err(_) => Err(TextHalt::Memory),
     }
@@ -164,7 +164,7 @@ pub(crate) fn write_due<O: Sink>(
     ensures { WritesText (due_table request (keys_at (table_view document.now) tables.now) index.now since now) (O.side out.old) (O.side out.new) result }
 {
     if is_due(request.every, since, now) {
-        write_table(alloc, request.form, document, tables, index, now, out)
+        write_table(alloc, request, document, tables, index, now, out)
     } else {
         Ok(())
     }

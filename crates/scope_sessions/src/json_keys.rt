@@ -1,10 +1,10 @@
 //! The keys of a key file in JSON.
 ghost use Rattle.std.specs.Prelude.{◌≡◌, ◌++◌, ◌∷◌, [], ℕ, IfOk, List, OnOk, Some, codes, decimal, false, option_map, true};
 ghost use Rattle.toml.specs.View.{table_view};
-ghost use Rattle.book_sessions_json.specs.Json.{json_items};
-ghost use Rattle.book_sessions_json.specs.SessionJson.{asked_for_json, key_json, keys_json, last_used_json, may_go_json, name_json, rows_json};
+ghost use Rattle.book_sessions_json.specs.Json.{json_items, json_member};
+ghost use Rattle.book_sessions_json.specs.SessionJson.{asked_for_json, key_json, keys_json, last_used_json, may_go_json, name_json, peers_json, rows_json};
 ghost use Rattle.scope_sessions.specs.Halts.{keys_at};
-ghost use Rattle.scope_sessions.specs.JsonParts.{from_members, id_members, node_members, seen_members, state_members};
+ghost use Rattle.scope_sessions.specs.JsonParts.{from_members, id_members, node_members, seen_members, state_members, told_members};
 
 use crate::json_values::{push_address_text, push_comma, push_name, push_string, push_time};
 use crate::users::{first_asking, last_carrying};
@@ -12,7 +12,7 @@ use ao_base::push_decimal;
 use book_sessions::{KeyUse, MayGo};
 use key_table::{Row, Table, Tables};
 use plan_texts::admin_name;
-use scope_retiring::{Evidence, may_go};
+use scope_retiring::{Evidence, may_go, peers_told};
 use std::alloc::{AllocError, Global};
 
 // Puts the first members of a use of a row behind `out`: its time and its packet.
@@ -120,7 +120,7 @@ fn push_ids(out: &mut Vec<u8>, row: &Row) -> Result<(), AllocError>
     push_decimal(out, u64::from(row.recv_id()))
 }
 
-// Puts the last members of a row behind `out`: who used it last, who asks for it, whether it may go.
+// Puts the next members of a row behind `out`: who used it last, who asks for it, whether it may go.
 fn push_state(
     alloc: Global,
     out: &mut Vec<u8>,
@@ -128,15 +128,48 @@ fn push_state(
     asking: Option<KeyUse>,
     may: &[u8],
 ) -> Result<(), AllocError>
-    ensures { OnOk result (out.new.items ≡ out.old.items ++ (json_items false (state_members last asking may.now) ++ 125 ∷ [])) }
+    ensures { OnOk result (out.new.items ≡ out.old.items ++ json_items false (state_members last asking may.now)) }
 {
     push_name(out, b',', b"last_used")?;
     push_last(alloc, out, last)?;
     push_name(out, b',', b"asked_for")?;
     push_asking(alloc, out, asking)?;
     push_name(out, b',', b"may_go")?;
-    out.extend_from_slice(may)?;
+    out.extend_from_slice(may)
+}
+
+fn push_count(out: &mut Vec<u8>, peers: Option<u64>) -> Result<(), AllocError>
+    ensures { OnOk result (out.new.items ≡ out.old.items ++ peers_json peers) }
+{
+    match peers {
+        None => out.extend_from_slice(b"null"),
+        Some(count) => push_decimal(out, count),
+    }
+}
+
+// Puts how many peers were seen behind `out`, as the last member.
+fn push_peers(out: &mut Vec<u8>, peers: Option<u64>) -> Result<(), AllocError>
+    ensures { OnOk result (out.new.items ≡ out.old.items ++ (44 ∷ json_member (codes "peers_seen") (peers_json peers) ++ 125 ∷ [])) }
+{
+    push_name(out, b',', b"peers_seen")?;
+    push_count(out, peers)?;
     out.push(b'}')?;
+    Ok(())
+}
+
+// Puts the last members of a row behind `out`: what is told of it.
+fn push_told(
+    alloc: Global,
+    out: &mut Vec<u8>,
+    last: Option<KeyUse>,
+    asking: Option<KeyUse>,
+    may: &[u8],
+    peers: Option<u64>,
+) -> Result<(), AllocError>
+    ensures { OnOk result (out.new.items ≡ out.old.items ++ (json_items false (told_members last asking may.now peers) ++ 125 ∷ [])) }
+{
+    push_state(alloc, out, last, asking, may)?;
+    push_peers(out, peers)?;
     Ok(())
 }
 
@@ -156,9 +189,10 @@ fn push_key(
     let last = last_carrying(evidence.uses(), table, number, row);
     let asked = first_asking(evidence, table, number, row);
     let may = may_go_word(may_go(evidence, tables, table, number, row));
+    let peers = peers_told(alloc, evidence, table, row)?;
     push_node(out, document, table, row_number)?;
     push_ids(out, row)?;
-    push_state(alloc, out, last, asked, may)?;
+    push_told(alloc, out, last, asked, may, peers)?;
     Ok(())
 }
 

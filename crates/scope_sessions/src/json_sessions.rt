@@ -4,7 +4,7 @@ ghost use Rattle.std.specs.List.{find, list_any};
 ghost use Rattle.book_sessions.specs.declared.uses.KeyUse.{KeyUse as Use};
 ghost use Rattle.book_sessions.specs.SessionTexts.{is_of_session, opens_session};
 ghost use Rattle.book_sessions_json.specs.Json.{json_array, json_bool, json_items, json_member};
-ghost use Rattle.book_sessions_json.specs.SessionJson.{end_json, heading_json, numbers_to, protection_word, sender_place, session_json, use_json, uses_json};
+ghost use Rattle.book_sessions_json.specs.SessionJson.{end_json, heading_json, protection_word, sender_place, session_json, use_json, uses_json};
 ghost use Rattle.scope_sessions.specs.JsonParts.{asked_members, late_members, sender_members, span_members};
 
 use crate::json_values::{
@@ -237,17 +237,20 @@ fn push_own(
     push_session(alloc, out, number, own.as_slice())
 }
 
-/// Puts all sessions behind `out`, a comma between each two.
+/// Puts the sessions of these numbers behind `out`, a comma between each two.
 pub(crate) fn push_sessions(
     alloc: Global,
     out: &mut Vec<u8>,
     index: &SessionIndex,
+    numbers: &[u64],
 ) -> Result<(), AllocError>
-    ensures { OnOk result (out.new.items ≡ out.old.items ++ json_items true (map (session_json index.now.uses) (numbers_to index.now.sessions))) }
+    ensures { OnOk result (out.new.items ≡ out.old.items ++ json_items true (map (session_json index.now.uses) numbers.now)) }
 {
-    for i in 0..index.sessions() {
-        push_comma(out, i == 0)?;
-        push_own(alloc, out, index, i + 1)?;
+    let mut first = true;
+    for number in numbers {
+        push_comma(out, first)?;
+        push_own(alloc, out, index, *number)?;
+        first = false;
     }
     Ok(())
 }

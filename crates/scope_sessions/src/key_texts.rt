@@ -1,23 +1,21 @@
 //! The lines of the keys of a key file.
 ghost use Rattle.std.specs.Prelude.{◌≡◌, ◌++◌, ◌∷◌, [], OnOk, Some, codes, decimal};
-ghost use Rattle.std.specs.List.{list_any};
 ghost use Rattle.toml.specs.View.{table_view};
 ghost use Rattle.book_lines.specs.Texts.{spaced};
 ghost use Rattle.book_scope_texts.specs.Addresses.{usual_address_text};
 ghost use Rattle.book_scope_texts.specs.Instants.{instant_text};
 ghost use Rattle.scope_sessions.specs.Halts.{keys_at};
 ghost use Rattle.scope_sessions.specs.KeyRows.{found_line};
-ghost use Rattle.book_sessions.specs.KeyLines.{asking_texts, called_row, is_any, key_line, key_lines, keys_lines, last_texts, may_go_text, seen_peers_text};
+ghost use Rattle.book_sessions.specs.KeyLines.{asking_texts, called_row, key_line, key_lines, keys_lines, last_texts, may_go_text, peers_word, seen_peers_text};
 
 use crate::obstacles::push_obstacles;
 use crate::session_texts::{push_host, push_time};
 use crate::users::{first_asking, last_carrying};
-use book_base::Address;
 use book_sessions::{KeyUse, MayGo};
 use key_table::{Row, Table, Tables};
 use plan_texts::{admin_name, push_admin};
-use scope_retiring::{Evidence, may_go};
-use std::alloc::AllocError;
+use scope_retiring::{Evidence, may_go, peers_told};
+use std::alloc::{AllocError, Global};
 use text_lines::{push_field, push_newline, push_number, push_text};
 
 // Puts the time and the packet of the last use of a row behind `out`.
@@ -80,25 +78,26 @@ fn may_go_word(may: MayGo) -> &'static [u8]
     }
 }
 
-fn is_any(peer: &Option<Address>) -> bool
-    ensures { result ≡ is_any peer.now }
+fn peers_word(count: u64) -> &'static [u8]
+    ensures { result.now ≡ peers_word count }
 {
-    peer.is_none()
-}
-
-fn has_any(row: &Row) -> bool
-    ensures { result ≡ list_any is_any row.now.peers }
-{
-    row.peers().iter().any(|peer| is_any(peer))
-}
-
-fn push_peers(out: &mut Vec<u8>, any: bool) -> Result<(), AllocError>
-    ensures { OnOk result (out.new.items ≡ out.old.items ++ spaced (seen_peers_text any)) }
-{
-    if any {
-        push_text(out, b"of the peers seen")
+    if count == 1 {
+        b"peer seen"
     } else {
-        Ok(())
+        b"peers seen"
+    }
+}
+
+// Puts behind `out` how many peers were seen, if the row is for any.
+fn push_peers(out: &mut Vec<u8>, peers: Option<u64>) -> Result<(), AllocError>
+    ensures { OnOk result (out.new.items ≡ out.old.items ++ spaced (seen_peers_text peers)) }
+{
+    match peers {
+        None => Ok(()),
+        Some(count) => {
+            push_field(out, b"of the", count)?;
+            push_text(out, peers_word(count))
+        }
     }
 }
 
@@ -144,20 +143,20 @@ fn push_row(
 }
 
 // Puts the end of the line of a row behind `out`: who used it last, who asks for it, whether it may go, and
-// whether that holds of the peers that were seen.
+// of how many peers that holds.
 fn push_state(
     out: &mut Vec<u8>,
     last: Option<KeyUse>,
     asking: Option<KeyUse>,
     may: &[u8],
-    any: bool,
+    peers: Option<u64>,
 ) -> Result<(), AllocError>
-    ensures { OnOk result (out.new.items ≡ out.old.items ++ (spaced (last_texts last (asking_texts asking (may.now ∷ seen_peers_text any))) ++ 10 ∷ [])) }
+    ensures { OnOk result (out.new.items ≡ out.old.items ++ (spaced (last_texts last (asking_texts asking (may.now ∷ seen_peers_text peers))) ++ 10 ∷ [])) }
 {
     push_last(out, last)?;
     push_asking(out, asking)?;
     push_text(out, may)?;
-    push_peers(out, any)?;
+    push_peers(out, peers)?;
     push_newline(out)?;
     Ok(())
 }
@@ -172,14 +171,17 @@ fn push_found(
     last: Option<KeyUse>,
     asking: Option<KeyUse>,
     may: MayGo,
+    peers: Option<u64>,
 ) -> Result<(), AllocError>
-    ensures { OnOk result (out.new.items ≡ out.old.items ++ found_line (table_view document.now) table.now number row.now last asking may) }
+    ensures { OnOk result (out.new.items ≡ out.old.items ++ found_line (table_view document.now) table.now number row.now last asking may peers) }
 {
     push_row(out, document, table, number, row)?;
-    push_state(out, last, asking, may_go_word(may), has_any(row))
+    push_state(out, last, asking, may_go_word(may), peers)
 }
 
-fn push_key(
+/// Puts the line of a row behind `out`, and the lines of all that stands in its way.
+pub(crate) fn push_key(
+    alloc: Global,
     out: &mut Vec<u8>,
     document: &toml::Table,
     evidence: &Evidence,
@@ -194,11 +196,15 @@ fn push_key(
     let last = last_carrying(evidence.uses(), table, number, row);
     let asked = first_asking(evidence, table, number, row);
     let may = may_go(evidence, tables, table, number, row);
-    push_found(out, document, table, row_number, row, last, asked, may)?;
+    let peers = peers_told(alloc, evidence, table, row)?;
+    push_found(
+        out, document, table, row_number, row, last, asked, may, peers,
+    )?;
     push_obstacles(out, evidence, tables, table, number, row)
 }
 
 fn push_rows(
+    alloc: Global,
     out: &mut Vec<u8>,
     document: &toml::Table,
     evidence: &Evidence,
@@ -211,13 +217,23 @@ fn push_rows(
     let _count = table.rows();
     let rows = table.entries();
     for (i, row) in rows.iter().enumerate() {
-        push_key(out, document, evidence, tables, table, (i + 1) as u8, row)?;
+        push_key(
+            alloc,
+            out,
+            document,
+            evidence,
+            tables,
+            table,
+            (i + 1) as u8,
+            row,
+        )?;
     }
     Ok(())
 }
 
 /// Puts the lines of the rows of all nodes behind `out`.
 pub(crate) fn push_keys(
+    alloc: Global,
     out: &mut Vec<u8>,
     document: &toml::Table,
     evidence: &Evidence,
@@ -227,7 +243,7 @@ pub(crate) fn push_keys(
 {
     for i in 0..tables.nodes() {
         let table = tables.node(i + 1);
-        push_rows(out, document, evidence, tables, table)?;
+        push_rows(alloc, out, document, evidence, tables, table)?;
     }
     Ok(())
 }

@@ -4,7 +4,7 @@ ghost use Rattle.std.specs.List.{find, flat_map, list_any};
 ghost use Rattle.book_lines.specs.Texts.{spaced};
 ghost use Rattle.book_scope_texts.specs.Addresses.{usual_address_text};
 ghost use Rattle.book_scope_texts.specs.Instants.{instant_text};
-ghost use Rattle.book_sessions.specs.SessionTexts.{capture_line, earliest_seen, heading_line, id_text, is_of_session, lines_of_session, opens_session, protection_text, seen_text, sessions_lines, span_texts, use_line, use_line_in};
+ghost use Rattle.book_sessions.specs.SessionTexts.{capture_line, earliest_seen, heading_line, id_text, is_of_session, lines_of_session, opens_session, protection_text, seen_text, span_texts, use_line, use_line_in};
 
 use book_base::{Address, Socket};
 use book_sessions::{KeyUse, Protection};
@@ -282,15 +282,17 @@ fn push_own(
     push_session(out, number, own.as_slice())
 }
 
+/// Puts the lines of the sessions of these numbers behind `out`.
 pub(crate) fn push_sessions(
     alloc: Global,
     out: &mut Vec<u8>,
     index: &SessionIndex,
+    numbers: &[u64],
 ) -> Result<(), AllocError>
-    ensures { OnOk result (out.new.items ≡ out.old.items ++ sessions_lines index.now.uses index.now.sessions) }
+    ensures { OnOk result (out.new.items ≡ out.old.items ++ flat_map (lines_of_session index.now.uses) numbers.now) }
 {
-    for i in 0..index.sessions() {
-        push_own(alloc, out, index, i + 1)?;
+    for number in numbers {
+        push_own(alloc, out, index, *number)?;
     }
     Ok(())
 }

@@ -1,20 +1,21 @@
 //! The whole text of a table, and whether anything in it is amiss.
-ghost use Rattle.std.specs.Prelude.{◌≡◌, ◌++◌, ◌∷◌, ◌||◌, [], codes, decimal, not, OnOk, IfSome};
+ghost use Rattle.std.specs.Prelude.{◌≡◌, ◌++◌, ◌∷◌, ◌||◌, [], codes, decimal, IfOk, OnOk, IfSome};
 ghost use Rattle.book_lines.specs.Texts.{line_text};
-ghost use Rattle.std.specs.List.{list_any};
+ghost use Rattle.std.specs.List.{flat_map};
 ghost use Rattle.book_sessions.specs.Counts.{all_counted, all_passed};
 ghost use Rattle.toml.specs.View.{table_view};
-ghost use Rattle.book_sessions.specs.OutcomeTexts.{is_verified};
-ghost use Rattle.book_sessions.specs.SessionTexts.{has_amiss, sessions_text, unset_line};
+ghost use Rattle.book_sessions.specs.SessionTexts.{lines_of_session, unset_line};
+ghost use Rattle.book_sessions.specs.TableTexts.{foreign_lines, has_amiss, is_none, sessions_text};
 ghost use Rattle.scope_sessions.specs.Halts.{keys_at};
 
+use crate::foreign::{Numbers, have_unverified, numbers_of, push_foreign};
 use crate::key_texts::push_keys;
 use crate::passed_texts::push_counts;
 use crate::session_texts::{push_capture, push_sessions};
 use ao_base::push_decimal;
 use book_sessions::{KeyUse, PassedCount};
 use key_table::Tables;
-use scope_retiring::{Evidence, has_doubtful, is_verified};
+use scope_retiring::{Evidence, has_doubtful};
 use session_index::SessionIndex;
 use std::alloc::{AllocError, Global};
 use text_lines::push_newline;
@@ -41,18 +42,36 @@ pub(crate) fn all_passed(passed: &[PassedCount]) -> Option<u64>
     Some(count)
 }
 
-fn has_unverified(uses: &[KeyUse]) -> bool
-    ensures { result ≡ list_any (λ u. not (is_verified u.outcome)) uses.now }
+fn is_none(own: &[u64]) -> bool
+    ensures { result ≡ is_none own.now }
 {
-    uses.iter().any(|one| !is_verified(one.outcome))
+    match own {
+        [] => true,
+        [_first, _others @ ..] => false,
+    }
 }
 
-/// Whether a segment isn't verified, or a packet that is passed over may be one.
-#[tactic(auto, unfolding(book_sessions::specs::SessionTexts::has_amiss))]
-pub(crate) fn has_amiss(index: &SessionIndex) -> bool
-    ensures { result ≡ has_amiss index.now }
+fn is_one_of_three(unverified: bool, doubtful: bool, none: bool) -> bool
+    ensures { result ≡ ((unverified || doubtful) || none) }
 {
-    has_unverified(index.uses()) || has_doubtful(index.passed())
+    (unverified || doubtful) || none
+}
+
+/// Whether a segment of a session that isn't foreign isn't verified, or there is no such session; or a packet that
+/// is passed over may be a segment. An error for want of memory alone.
+#[tactic(auto, unfolding(book_sessions::specs::TableTexts::has_amiss))]
+pub(crate) fn has_amiss(
+    alloc: Global,
+    tables: &Tables,
+    index: &SessionIndex,
+) -> Result<bool, AllocError>
+    ensures { IfOk result (λ amiss. amiss ≡ has_amiss tables.now index.now) }
+{
+    let numbers = numbers_of(alloc, true, tables, index)?;
+    let own = numbers.own.as_slice();
+    let unverified = have_unverified(alloc, index, own)?;
+    let doubtful = has_doubtful(index.passed());
+    Ok(is_one_of_three(unverified, doubtful, is_none(own)))
 }
 
 // Puts the line of so many segments without a header checksum behind `out`.
@@ -74,25 +93,47 @@ fn push_unset(out: &mut Vec<u8>, unset: u64) -> Result<(), AllocError>
     push_unset_line(out, unset)
 }
 
+// Puts what is told of foreign sessions behind `out`, and the sessions that are listed.
+fn push_told(
+    alloc: Global,
+    out: &mut Vec<u8>,
+    index: &SessionIndex,
+    numbers: &Numbers,
+) -> Result<(), AllocError>
+    ensures { OnOk result (out.new.items ≡ out.old.items ++ (foreign_lines index.now.uses numbers.now.foreign.items numbers.now.own.items
+        ++ flat_map (lines_of_session index.now.uses) numbers.now.listed.items)) }
+{
+    push_foreign(
+        alloc,
+        out,
+        index,
+        numbers.foreign.as_slice(),
+        numbers.own.as_slice(),
+    )?;
+    push_sessions(alloc, out, index, numbers.listed.as_slice())
+}
+
 /// Puts the text of a table behind `out`, with the keys of these tables. An error for want of memory,
 /// or where more than 2^64 - 1 packets are counted; then a part of it may stand there.
 pub(crate) fn push_table(
     alloc: Global,
+    all: bool,
     out: &mut Vec<u8>,
     document: &toml::Table,
     tables: &Tables,
     index: &SessionIndex,
 ) -> Result<(), AllocError>
-    ensures { OnOk result (out.new.items ≡ out.old.items ++ sessions_text (keys_at (table_view document.now) tables.now) index.now) }
+    ensures { OnOk result (out.new.items ≡ out.old.items ++ sessions_text all (keys_at (table_view document.now) tables.now) index.now) }
 {
     let uses = index.uses();
     let segments = all_counted(uses).ok_or(AllocError)?;
     let others = all_passed(index.passed()).ok_or(AllocError)?;
     let evidence = Evidence::of(alloc, index)?;
+    let numbers = numbers_of(alloc, all, tables, index)?;
     push_capture(out, segments, others, uses)?;
     push_counts(out, index.passed())?;
     push_unset(out, index.unset())?;
-    push_sessions(alloc, out, index)?;
-    push_keys(out, document, &evidence, tables)?;
+    push_told(alloc, out, index, &numbers)?;
+    push_keys(alloc, out, document, &evidence, tables)?;
     Ok(())
 }

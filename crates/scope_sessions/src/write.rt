@@ -2,7 +2,7 @@
 ghost use Rattle.std.specs.Prelude.{◌≡◌, ℕ, List};
 ghost use Rattle.toml.specs.View.{table_view};
 ghost use Rattle.ao_base.specs.Outside.{Side};
-ghost use Rattle.scope_sessions.specs.Writing.{Writes, WritesCounted};
+ghost use Rattle.scope_sessions.specs.Writing.{Writes, WritesCounted, table_report};
 
 use crate::count::{CountHalt, Counted, count_capture};
 use crate::document::read_document;
@@ -11,29 +11,28 @@ use crate::halt::{JudgingHalt, halt_of, halt_of_lines};
 use crate::isns::read_given;
 use crate::table_text::has_amiss;
 use ao_base::{Failed, Sink, Source, write_all};
-use book_sessions_json::{TableForm, TableRequest};
+use book_sessions_json::TableRequest;
 use key_table::read_tables;
 use std::alloc::Global;
 
 // Writes the table of what was counted.
 fn write_counted<O: Sink>(
     alloc: Global,
-    form: TableForm,
+    request: TableRequest,
     document: &toml::Table,
     counted: &Counted,
     out: &mut O,
 ) -> Result<bool, JudgingHalt>
-    ensures { WritesCounted form (table_view document.now) counted.now (O.side out.old) (O.side out.new) result }
+    ensures { WritesCounted (table_report request) (table_view document.now) counted.now (O.side out.old) (O.side out.new) result }
 {
+    let tables = counted.listener.tables();
+    let index = &counted.index;
+    let amiss = match has_amiss(alloc, tables, index) {
+        Ok(amiss) => amiss,
+        Err(_) => return Err(JudgingHalt::Memory),
+    };
     let mut text = Vec::new(alloc);
-    match push_form(
-        alloc,
-        form,
-        &mut text,
-        document,
-        counted.listener.tables(),
-        &counted.index,
-    ) {
+    match push_form(alloc, request, &mut text, document, tables, index) {
         Ok(()) => {}
         Err(_) => return Err(JudgingHalt::Memory),
     }
@@ -42,7 +41,7 @@ fn write_counted<O: Sink>(
         Err(Failed) => return Err(JudgingHalt::Write),
     }
     match counted.fault {
-        None => Ok(has_amiss(&counted.index)),
+        None => Ok(amiss),
         Some(fault) => Err(JudgingHalt::Broken(fault)),
     }
 }
@@ -52,8 +51,9 @@ fn write_counted<O: Sink>(
 /// used it last and whether anyone asks for it. Where a MAC is wrong as it stands the segment is judged over
 /// so many laps of the sequence space more; where no handshake is verified, by initial sequence numbers that
 /// were seen, as unconfirmed. Each table that is due in front of a packet is written before
-/// that packet is counted, the last one at the end. Ok at the capture's end, and whether anything is amiss: a
-/// segment that isn't verified, or a packet that is passed over and may be one.
+/// that packet is counted, the last one at the end. Ok at the capture's end, and whether anything is amiss: of
+/// the sessions that aren't foreign to the key file a segment that isn't verified, or no such session at all; or a packet
+/// that is passed over and may be a segment.
 ///
 /// Each given line that says something is `ADDRESS PORT ISN ADDRESS PORT ISN`: two sockets of one version of
 /// IP that differ, with addresses in their usual form, each with its initial sequence number.
@@ -74,7 +74,7 @@ pub fn write_sessions<I: Source, O: Sink>(
     input: &mut I,
     out: &mut O,
 ) -> Result<bool, JudgingHalt>
-    ensures { (given : List ℕ) × Writes request laps keys.now isns.now given (I.side input.old) (I.side input.new) (O.side out.old) (O.side out.new) result }
+    ensures { (given : List ℕ) × Writes (table_report request) request laps keys.now isns.now given (I.side input.old) (I.side input.new) (O.side out.old) (O.side out.new) result }
 {
     let tables = match read_tables(alloc, keys) {
         Ok(tables) => tables,
@@ -98,7 +98,7 @@ pub fn write_sessions<I: Source, O: Sink>(
         input,
         out,
     ) {
-        Ok(counted) => write_counted(alloc, request.form, &document, &counted, out),
+        Ok(counted) => write_counted(alloc, request, &document, &counted, out),
         Err(CountHalt::TooLong) => Err(JudgingHalt::TooLong),
         Err(CountHalt::Read) => Err(JudgingHalt::Read),
         Err(CountHalt::Write) => Err(JudgingHalt::Write),

@@ -1,7 +1,7 @@
-use Rattle.std.proofs.Common.{◌≡◌, ◌++◌, map, true}
+use Rattle.std.proofs.Common.{◌≡◌, ◌++◌, drop, map, true}
 use Rattle.book_sessions_json.specs.Json.{json_items}
-use Rattle.book_sessions_json.specs.SessionJson.{numbers_to, session_json}
+use Rattle.book_sessions_json.specs.SessionJson.{session_json}
 use Rattle.scope_sessions.proofs.json_sessions.push_sessions.Given as goal
 
-abbrev pub invariant-loop-i : goal.invariant-loop-i
-invariant-loop-i l = l.out.items ≡ l.fn.out.items ++ json_items true (map (session_json l.index.uses) (numbers_to l.i))
+abbrev pub invariant-loop-number : goal.invariant-loop-number
+invariant-loop-number l = l.out.items ++ json_items l.first (map (session_json l.index.uses) (drop l.number-index l.numbers)) ≡ l.fn.out.items ++ json_items true (map (session_json l.index.uses) l.numbers)
