@@ -10,7 +10,6 @@ use Rattle.book_base.specs.declared.address.Pair.{Pair}
 use Rattle.book_base.specs.Algorithms.{name_of}
 use Rattle.book_keys.specs.declared.direction.Direction.{Direction}
 use Rattle.book_keys.specs.declared.direction.Direction.TheVariants.{Receive, Send, Both, Disabled}
-use Rattle.book_keys.specs.declared.plan.Plan.{Plan}
 use Rattle.book_keys.specs.Rows.{Row, names}
 use Rattle.book_plans.specs.declared.differences.Differences.{Differences}
 use Rattle.book_plans.specs.Differences.{differences}

@@ -1,13 +1,15 @@
 -- What is written of the planned rollover of each connection of an input. Our own format. Its tops
 -- are `plans_text` and `has_wrong_plan`.
-use Rattle.std.specs.Prelude.{ℕ, not, ◌&&◌, Bool, true, false, List, [], ◌∷◌, ◌++◌, codes, decimal}
+use Rattle.std.specs.Prelude.{◌≡◌, ◌⊎◌, ℕ, not, ◌&&◌, Bool, true, false, List, [], ◌∷◌, ◌++◌, codes, decimal}
 use Rattle.std.specs.Prelude.{flat_map, Option, Some, None, is_some}
 use Rattle.std.specs.List.{list_any, find}
 use Rattle.book_base.specs.declared.address.Address.{Address}
 use Rattle.book_base.specs.declared.address.Pair.{Pair}
 use Rattle.book_base.specs.declared.address.Socket.{Socket}
 use Rattle.book_keys.specs.declared.plan.Plan.{Plan}
-use Rattle.book_keys.specs.Rows.{Table, has_address}
+use Rattle.book_keys.specs.Choices.{send_row}
+use Rattle.book_keys.specs.Lookups.{number_of}
+use Rattle.book_keys.specs.Rows.{Row, Table, has_address}
 use Rattle.book_lines.specs.Said.{Said}
 use Rattle.book_plans.specs.declared.finding.Finding.{Finding}
 use Rattle.book_plans.specs.declared.turn.Role.{Role}
@@ -75,6 +77,14 @@ begins_sending t = by_role t.role t.begins
 unfoldable pub changes_key : List Table → Plan → Pair → Bool
 changes_key tables plan pair =
     list_any begins_sending (calendar_of tables pair plan.from plan.to)
+
+-- the number of the row that an end sends with at a time (RFC 7210, section 3, and own)
+abbrev pub sent_at : List Row → Pair → ℕ → Option ℕ
+sent_at rows pair time = number_of (send_row rows pair time)
+
+-- of two rows that an end sends with the later one is the earlier one, or there is none (own)
+abbrev pub IsNoOther : (before now : Option ℕ) → Type 0
+IsNoOther before now = (now ≡ None) ⊎ (now ≡ before)
 
 -- the line of a plan in which no end does (own)
 unfoldable pub unchanged_line : Plan → List ℕ
