@@ -5,4 +5,5 @@ pub mod FindingTexts
 pub mod DifferenceTexts
 pub mod WayTexts
 pub mod Notes
+pub mod Reconfiguring
 pub mod PlanTexts

@@ -25,6 +25,7 @@ use Rattle.book_scope_plan.specs.AdminNames.{KeyFile}
 use Rattle.book_scope_plan.specs.CalendarTexts.{calendar_text}
 use Rattle.book_scope_plan.specs.FindingTexts.{Facing, text_if, times_text}
 use Rattle.book_scope_plan.specs.Notes.{notes_text}
+use Rattle.book_scope_plan.specs.Reconfiguring.{reconfiguring_text}
 use Rattle.book_scope_plan.specs.WayTexts.{finding_text}
 
 -- an address and a port (own)
@@ -58,7 +59,8 @@ abbrev pub findings_text : Facing → List Table → List Finding → List ℕ
 findings_text ends tables [] =
     aligned_line (lead_margin_of tables ends.pair ends.plan.lag)
     (lag_margin_of tables ends.pair ends.plan.lead)
-findings_text ends tables (f ∷ fs) = flat_map (finding_text ends) (f ∷ fs)
+findings_text ends tables (f ∷ fs) =
+    flat_map (finding_text ends) (f ∷ fs) ++ reconfiguring_text ends (f ∷ fs)
 
 -- all findings on a connection (own)
 abbrev pub plan_findings : List Table → Plan → Pair → List Finding

@@ -4,4 +4,6 @@
 
 mod laws;
 
-pub use laws::{accepting_ways_mend, sending_ways_mend, told_ways_mend};
+pub use laws::{
+    accepting_ways_mend, reconfigured_ends_are_aligned, sending_ways_mend, told_ways_mend,
+};
