@@ -13,7 +13,6 @@ use Rattle.book_keys.specs.Plans.{accepts_from}
 use Rattle.book_keys.specs.Rows.{Row, sends_for}
 use Rattle.book_plans.specs.declared.finding.Finding.{Finding}
 use Rattle.book_plans.specs.declared.finding.Finding.TheVariants as finding
-use Rattle.book_plans.specs.Findings.{Span}
 use Rattle.book_plans.specs.Ways.{changed_row, sending_in}
 use Rattle.book_scope_plan.specs.CalendarTexts.{are_both_ends, row_numbered}
 use Rattle.book_scope_plan.specs.FindingTexts.{Facing, facing_at, row_name, text_if, times_text}
@@ -59,34 +58,34 @@ latest_switch plan o =
     else min plan.to (o.accepting.last + 1 - plan.lag)
 
 -- the times from the first to the last, if any (own)
-abbrev pub span_between : (first last : ℕ) → Option Span
+abbrev pub span_between : (first last : ℕ) → Option Lifetime
 span_between a b = if nat_le a b then Some (record { first = a; last = b }) else None
 
 -- the times by the rows of the other end that accept, if any (own)
-abbrev pub span_by : Plan → (old_taker new_taker : Option Row) → Option Span
+abbrev pub span_by : Plan → (old_taker new_taker : Option Row) → Option Lifetime
 span_by plan (Some x) (Some y) = span_between (earliest_switch plan y) (latest_switch plan x)
 span_by plan _ _ = None
 
 -- the times at which the node of a connection, which is given as that node sees it, may begin to
 -- send with the new row in place of the old one (own)
-abbrev pub switch_span : Facing → (old new : Row) → Option Span
+abbrev pub switch_span : Facing → (old new : Row) → Option Lifetime
 switch_span f r o = span_by f.plan (old_taker f r) (new_taker f o)
 
 -- from which row to which a node is to be reconfigured, and when (own)
-unfoldable pub switch_line : Facing → (old new : ℕ) → Span → List ℕ
+unfoldable pub switch_line : Facing → (old new : ℕ) → Lifetime → List ℕ
 switch_line f n m s =
     codes "  or reconfigure " ++ (f.node.name ++ (codes " from row " ++ (decimal n
     ++ (codes " to row " ++ (decimal m ++ (codes " at a time from " ++ (times_text s.first s.last
-    ++ codes ", to accept both all along\n")))))))
+    ++ codes ", accepting both throughout\n")))))))
 
 -- that it can't be (own)
 unfoldable pub no_switch_line : Facing → List ℕ
 no_switch_line f =
-    codes "  at no time may " ++ (f.node.name
-    ++ codes " be reconfigured: the other end doesn't accept its rows for long enough\n")
+    codes "  at no time can " ++ (f.node.name ++ (codes " be reconfigured: "
+    ++ (f.other.name ++ codes " doesn't accept both rows for long enough\n")))
 
 -- the first of two spans, told with the rows in its order; or that there is none (own)
-abbrev pub switch_text : Facing → (one other : ℕ) → (there back : Option Span) → List ℕ
+abbrev pub switch_text : Facing → (one other : ℕ) → (there back : Option Lifetime) → List ℕ
 switch_text f n m (Some s) back = switch_line f n m s
 switch_text f n m None (Some s) = switch_line f m n s
 switch_text f n m None None = no_switch_line f
@@ -104,10 +103,14 @@ timeless_text f n m =
     text_if (nat_lt n m)
     (two_rows_text f n m (row_numbered f.node.rows n) (row_numbered f.node.rows m))
 
--- where nothing else is wrong than that two rows of one node aren't accepted for long enough, and
--- they have no lifetimes: when the node may be reconfigured; the connection is given as end a sees
--- it (own)
-abbrev pub reconfiguring_text : Facing → List Finding → List ℕ
-reconfiguring_text f (finding.ShortAccept end n ∷ finding.ShortAccept far m ∷ []) =
+-- what is said of two findings on a connection, which is given as end a sees it: where two rows of
+-- one node aren't accepted for long enough, when it may be reconfigured (own)
+abbrev pub two_findings_text : Facing → (one other : Finding) → List ℕ
+two_findings_text f (finding.ShortAccept end n) (finding.ShortAccept far m) =
     text_if (not (are_both_ends end far)) (timeless_text (facing_at end f) n m)
-reconfiguring_text f _ = []
+two_findings_text f one two = []
+
+-- the same of all findings, where there are two (own)
+abbrev pub reconfiguring_text : Facing → List Finding → List ℕ
+reconfiguring_text f (one ∷ two ∷ []) = two_findings_text f one two
+reconfiguring_text f fs = []

@@ -17,7 +17,7 @@ use Rattle.book_keys.proofs.GapLaws.{gap_exactly, lint_aligned}
 use Rattle.book_keys.proofs.PlanLaws.{from_contains, to_contains}
 use Rattle.book_plans.specs.declared.finding.Finding.{Finding}
 use Rattle.book_plans.specs.declared.finding.Finding.TheVariants as finding
-use Rattle.book_plans.specs.Findings.{Span, finding_by, findings, gap_findings, unmet_findings, with_finding}
+use Rattle.book_plans.specs.Findings.{finding_by, findings, gap_findings, unmet_findings, with_finding}
 use Rattle.book_plans.specs.Ways.{changed_row, sending_in}
 use Rattle.book_scope_plan.specs.CalendarTexts.{row_numbered}
 use Rattle.book_scope_plan.specs.FindingTexts.{Facing, facing_at}
@@ -92,14 +92,14 @@ le_tells a b e = grind (arith, nat_tests)
 lt_tells : (a b : ℕ) → nat_le a b ≡ false → b < a
 lt_tells a b e = grind (arith, nat_tests)
 
-in_span : (a b : ℕ) (s : Span) → span_between a b ≡ Some s → (s.first ≡ a) × (s.last ≡ b)
+in_span : (a b : ℕ) (s : Lifetime) → span_between a b ≡ Some s → (s.first ≡ a) × (s.last ≡ b)
 in_span a b s e = by_test (nat_le a b) e
   where
-    by_test : (t : Bool) → ◌≡◌ {A = Option Span} (if t then Some (record { first = a; last = b }) else None) (Some s) → (s.first ≡ a) × (s.last ≡ b)
-    by_test true h = let same : record { first = a; last = b } ≡ s = cc in (sym (ap (λ (x : Span). x.first) same), sym (ap (λ (x : Span). x.last) same))
+    by_test : (t : Bool) → ◌≡◌ {A = Option Lifetime} (if t then Some (record { first = a; last = b }) else None) (Some s) → (s.first ≡ a) × (s.last ≡ b)
+    by_test true h = let same : record { first = a; last = b } ≡ s = cc in (sym (ap (λ (x : Lifetime). x.first) same), sym (ap (λ (x : Lifetime). x.last) same))
     by_test false h = absurd (cc)
 
-pub record Takers (f : Facing) (r o : Row) (s : Span) : Type 0 where
+pub record Takers (f : Facing) (r o : Row) (s : Lifetime) : Type 0 where
   pub x : Row
   pub y : Row
   pub old : old_taker f r ≡ Some x
@@ -107,7 +107,7 @@ pub record Takers (f : Facing) (r o : Row) (s : Span) : Type 0 where
   pub first : s.first ≡ earliest_switch f.plan y
   pub last : s.last ≡ latest_switch f.plan x
 
-takers : (f : Facing) (r o : Row) (s : Span) → switch_span f r o ≡ Some s → Takers f r o s
+takers : (f : Facing) (r o : Row) (s : Lifetime) → switch_span f r o ≡ Some s → Takers f r o s
 takers f r o s is = by_rows (old_taker f r) (new_taker f o) refl refl is
   where
     by_rows : (a b : Option Row) → old_taker f r ≡ a → new_taker f o ≡ b → span_by f.plan a b ≡ Some s → Takers f r o s
@@ -134,7 +134,7 @@ last_accepted plan x time low high some = by_test (nat_le greatest_time x.accept
     by_test true e h = let le = le_tells greatest_time x.accepting.last e in omega arith
     by_test false e h = omega arith
 
-module _ (f : Facing) (r o : Row) (s : Span) (time : ℕ) (span : switch_span f r o ≡ Some s) (low : s.first ≤ time) (high : time ≤ s.last)
+module _ (f : Facing) (r o : Row) (s : Lifetime) (time : ℕ) (span : switch_span f r o ≡ Some s) (low : s.first ≤ time) (high : time ≤ s.last)
     (end : f.plan.to ≤ greatest_time) where
   abbrev old_life : Lifetime
   old_life = record { first = f.plan.from; last = time - 1 }
@@ -312,7 +312,7 @@ neither : (j n m : ℕ) → (j ≡ n → ⊥) → (j ≡ m → ⊥) → (j ≡ n
 neither j n m p q (inl e) = p e
 neither j n m p q (inr e) = q e
 
-pub aligned_at : (f : Facing) (e : End) (n m time : ℕ) (r o : Row) (s : Span) → 1 ≤ n → 1 ≤ m → (n ≡ m → ⊥) → f.plan.to ≤ greatest_time
+pub aligned_at : (f : Facing) (e : End) (n m time : ℕ) (r o : Row) (s : Lifetime) → 1 ≤ n → 1 ≤ m → (n ≡ m → ⊥) → f.plan.to ≤ greatest_time
     → AllByRecursion (IsOfTwo e n m) (findings f.node.rows f.other.rows f.pair f.plan)
     → row_numbered (facing_at e f).node.rows n ≡ Some r → row_numbered (facing_at e f).node.rows m ≡ Some o
     → is_timeless (facing_at e f).pair r ≡ true → is_timeless (facing_at e f).pair o ≡ true
@@ -348,7 +348,7 @@ aligned_at f B n m time r o s low_n low_m apart end all got_n got_m one two span
 two_hold : (P : Finding → Type 0) (fs : List Finding) (x y : Finding) → fs ≡ x ∷ y ∷ [] → P x → P y → AllByRecursion P fs
 two_hold P fs x y is one two = rw is (one, (two, tt))
 
-module _ (f : Facing) (e : End) (n m time : ℕ) (r o : Row) (s : Span) (low_n : 1 ≤ n) (less : n < m) (end : f.plan.to ≤ greatest_time)
+module _ (f : Facing) (e : End) (n m time : ℕ) (r o : Row) (s : Lifetime) (low_n : 1 ≤ n) (less : n < m) (end : f.plan.to ≤ greatest_time)
     (is : findings f.node.rows f.other.rows f.pair f.plan ≡ finding.ShortAccept e n ∷ finding.ShortAccept e m ∷ [])
     (got_n : row_numbered (facing_at e f).node.rows n ≡ Some r) (got_m : row_numbered (facing_at e f).node.rows m ≡ Some o)
     (one : is_timeless (facing_at e f).pair r ≡ true) (two : is_timeless (facing_at e f).pair o ≡ true) where

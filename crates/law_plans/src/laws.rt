@@ -13,7 +13,7 @@ ghost use Rattle.book_keys.specs.Plans.{accepts_from, lint_rows, mirrored};
 ghost use Rattle.book_keys.specs.Rows.{Row};
 ghost use Rattle.book_plans.specs.declared.finding.Finding.TheVariants as finding;
 ghost use Rattle.book_plans.specs.Differences.{differences, is_alike};
-ghost use Rattle.book_plans.specs.Findings.{Span, accepting_in, findings};
+ghost use Rattle.book_plans.specs.Findings.{accepting_in, findings};
 ghost use Rattle.book_plans.specs.Margins.{IsOrdered};
 ghost use Rattle.book_plans.specs.Ways.{accepting_obstacle, changed_row, fitting_accepting, fitting_sending, sending_in, sending_obstacle};
 ghost use Rattle.book_scope_plan.specs.CalendarTexts.{row_numbered};
@@ -82,13 +82,13 @@ pub fn told_ways_mend()
 /// at each of the times between which the text says to reconfigure that end from one of them to the other, the judgement
 /// is `Aligned` where the end sends with the one from FROM until that time, and from then on until TO with the other.
 pub fn reconfigured_ends_are_aligned()
-    ensures there { (f : Facing) (e : End) (n m time : ℕ) (r o : Row) (s : Span)
+    ensures there { (f : Facing) (e : End) (n m time : ℕ) (r o : Row) (s : Lifetime)
         → 1 ≤ n → n < m → f.plan.to ≤ greatest_time
         → findings f.node.rows f.other.rows f.pair f.plan ≡ finding.ShortAccept e n ∷ finding.ShortAccept e m ∷ []
         → row_numbered (facing_at e f).node.rows n ≡ Some r → row_numbered (facing_at e f).node.rows m ≡ Some o
         → is_timeless (facing_at e f).pair r ≡ true → is_timeless (facing_at e f).pair o ≡ true
         → switch_span (facing_at e f) r o ≡ Some s → s.first ≤ time → time ≤ s.last → IsAligned (switched_at e n m time f) }
-    ensures back { (f : Facing) (e : End) (n m time : ℕ) (r o : Row) (s : Span)
+    ensures back { (f : Facing) (e : End) (n m time : ℕ) (r o : Row) (s : Lifetime)
         → 1 ≤ n → n < m → f.plan.to ≤ greatest_time
         → findings f.node.rows f.other.rows f.pair f.plan ≡ finding.ShortAccept e n ∷ finding.ShortAccept e m ∷ []
         → row_numbered (facing_at e f).node.rows n ≡ Some r → row_numbered (facing_at e f).node.rows m ≡ Some o
