@@ -12,6 +12,7 @@ use crate::facing::Facing;
 use crate::findings::push_findings;
 use crate::key_file::KeyFile;
 use crate::notes::push_notes;
+use crate::reconfiguring::push_reconfiguring;
 use ao_base::push_decimal;
 use book_base::Pair;
 use book_cmd_keys::Plan;
@@ -81,7 +82,10 @@ fn push_judgement(
             let lag = lag_margin(tables, &facing.pair, facing.plan.lead);
             push_aligned(out, lead, lag)
         }
-        [_, ..] => push_findings(out, facing, findings),
+        [_, ..] => {
+            push_findings(out, facing, findings)?;
+            push_reconfiguring(out, facing, findings)
+        }
     }
 }
 

@@ -16,6 +16,7 @@ mod lifetimes;
 mod notes;
 mod planned;
 mod plans;
+mod reconfiguring;
 mod refused;
 mod shift;
 mod short;
