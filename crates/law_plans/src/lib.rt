@@ -1,5 +1,6 @@
 //! What `plan` calls enough mends the plan: another lifetime of a row in whose way nothing stands gives tables that
-//! are valid, and of which the judgement is `Aligned`. Theorems alone, as the contracts of empty functions.
+//! are valid, and of which the judgement is `Aligned`; and so does a node without lifetimes that is reconfigured when
+//! it says. Theorems alone, as the contracts of empty functions.
 #![tactic(auto)]
 
 mod laws;

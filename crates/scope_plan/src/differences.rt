@@ -216,7 +216,14 @@ fn push_key_lines(
 ) -> Result<(), AllocError>
     ensures { OnOk result (out.new.items ≡ out.old.items ++ key_column_lines name.now row.now other.now d.now) }
 {
-    push_ids_if(out, d.key_id, name, row, other, are_exchanged(d, row, other))?;
+    push_ids_if(
+        out,
+        d.key_id,
+        name,
+        row,
+        other,
+        are_exchanged(d, row, other),
+    )?;
     push_key_if(out, d.master, name, row.master(), other.master())?;
     push_algorithms_if(out, d.algorithm, name, row, other)
 }

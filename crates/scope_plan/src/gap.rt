@@ -133,8 +133,7 @@ fn is_kept_from(pair: &Pair, gap: GapSeconds, row: &Row) -> bool
 {
     let sending = row.sending();
     row.matches(pair)
-        && (!row.direction().sends()
-            && sending.first.max(gap.first) <= sending.last.min(gap.last))
+        && (!row.direction().sends() && sending.first.max(gap.first) <= sending.last.min(gap.last))
 }
 
 /// That the Direction of a row keeps it from sending.

@@ -48,15 +48,16 @@ fn is_left_open(row: &Row, other: &Row) -> bool
 fn never_ends(pair: &Pair, rows: &[Row], row: &Row) -> bool
     ensures { result ≡ never_ends pair.now rows.now row.now }
 {
-    rows.iter().any(|other| other.matches(pair) && is_left_open(row, other))
+    rows.iter()
+        .any(|other| other.matches(pair) && is_left_open(row, other))
 }
 
 /// Whether an earlier row has the Key of this one.
 fn has_old_key(pair: &Pair, rows: &[Row], row: &Row) -> bool
     ensures { result ≡ has_old_key pair.now rows.now row.now }
 {
-    rows.iter()
-        .any(|other| other.matches(pair) && (begins_after(other, row) && other.has_master_of(row)))
+    rows.iter().any(|other| other.matches(pair)
+        && (begins_after(other, row) && other.has_master_of(row)))
 }
 
 /// Whether a Key has so few bytes that it is noted.
@@ -68,12 +69,7 @@ fn is_short(master: &[u8]) -> bool
 
 /// A note on a row, where it is due.
 #[tactic(auto, unfolding(book_scope_plan::specs::Notes::note_line))]
-fn push_note_if(
-    out: &mut Vec<u8>,
-    holds: bool,
-    name: &[u8],
-    words: &[u8],
-) -> Result<(), AllocError>
+fn push_note_if(out: &mut Vec<u8>, holds: bool, name: &[u8], words: &[u8]) -> Result<(), AllocError>
     ensures { OnOk result (out.new.items ≡ out.old.items ++ note_if holds name.now words.now) }
 {
     if !holds {
@@ -96,13 +92,23 @@ fn push_row_notes(
     ensures { OnOk result (out.new.items ≡ out.old.items ++ row_notes name.now pair.now rows.now row.now) }
 {
     let is_open = never_ends(pair, rows, row);
-    push_note_if(out, is_open, name, b" never ends, though a later row is there\n")?;
+    push_note_if(
+        out,
+        is_open,
+        name,
+        b" never ends, though a later row is there\n",
+    )?;
     let is_old = has_old_key(pair, rows, row);
     push_note_if(out, is_old, name, b" has the Key of an earlier row\n")?;
     let is_short = is_short(row.master());
     push_note_if(out, is_short, name, b" has a Key under 8 bytes\n")?;
     let is_fed = ends_in_feed(row.master());
-    push_note_if(out, is_fed, name, b" has a Key that ends in 0a, a line feed\n")
+    push_note_if(
+        out,
+        is_fed,
+        name,
+        b" has a Key that ends in 0a, a line feed\n",
+    )
 }
 
 /// The notes on a row of this number, where it is for the connection.

@@ -71,7 +71,8 @@ fn plan_lines(
         let pair = connection_in(line)?;
         let written = push_connection_as(alloc, form, &mut out, count, keys, plan, &pair)?;
         count = written.next;
-        has_wrong |= !is_right(alloc, keys, plan, &pair, written.is_good)?;
+        let right = is_right(alloc, keys, plan, &pair, written.is_good)?;
+        has_wrong |= !right;
     }
     Ok(Planned {
         text: Bytes::from_vec(out),

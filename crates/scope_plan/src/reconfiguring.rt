@@ -209,12 +209,7 @@ fn push_found_rows(
 }
 
 /// What is said of two rows of a node by their numbers.
-fn push_timeless(
-    out: &mut Vec<u8>,
-    facing: &Facing,
-    one: u8,
-    other: u8,
-) -> Result<(), AllocError>
+fn push_timeless(out: &mut Vec<u8>, facing: &Facing, one: u8, other: u8) -> Result<(), AllocError>
     ensures { OnOk result (out.new.items ≡ out.old.items ++ timeless_text (facing_of facing.now) one other) }
 {
     if one < other {

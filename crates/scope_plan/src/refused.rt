@@ -31,15 +31,14 @@ fn push_no_id(out: &mut Vec<u8>, name: &[u8], row: &Row) -> Result<(), AllocErro
     Ok(())
 }
 
-fn push_no_id_if(
-    out: &mut Vec<u8>,
-    holds: bool,
-    name: &[u8],
-    row: &Row,
-) -> Result<(), AllocError>
+fn push_no_id_if(out: &mut Vec<u8>, holds: bool, name: &[u8], row: &Row) -> Result<(), AllocError>
     ensures { OnOk result (out.new.items ≡ out.old.items ++ text_if holds (no_id_line name.now row.now.send_id)) }
 {
-    if holds { push_no_id(out, name, row) } else { Ok(()) }
+    if holds {
+        push_no_id(out, name, row)
+    } else {
+        Ok(())
+    }
 }
 
 fn push_nearest_if(
