@@ -32,8 +32,13 @@ fn ids_end(exchanged: bool) -> &'static [u8]
     }
 }
 
+fn push_ids_end(out: &mut Vec<u8>, exchanged: bool) -> Result<(), AllocError>
+    ensures { OnOk result (out.new.items ≡ out.old.items ++ ids_end exchanged) }
+{
+    out.extend_from_slice(ids_end(exchanged))
+}
+
 /// The two KeyIDs, and whether they stand at the wrong ends.
-#[tactic(auto, unfolding(book_scope_plan::specs::DifferenceTexts::ids_text))]
 pub(crate) fn push_ids(
     out: &mut Vec<u8>,
     row: &Row,
@@ -46,7 +51,8 @@ pub(crate) fn push_ids(
     push_sent(out, row)?;
     out.extend_from_slice(b", received ")?;
     push_received(out, other)?;
-    out.extend_from_slice(ids_end(exchanged))
+    push_ids_end(out, exchanged)?;
+    Ok(())
 }
 
 /// Whether the last of the bytes is a line feed.
@@ -123,7 +129,7 @@ pub(crate) fn push_algorithms(out: &mut Vec<u8>, row: &Row, other: &Row) -> Resu
 }
 
 /// A Direction as a key file writes it.
-pub(crate) fn direction_name(direction: Direction) -> &'static [u8]
+fn direction_name(direction: Direction) -> &'static [u8]
     ensures { result.now ≡ direction_name direction }
 {
     match direction {
@@ -134,29 +140,39 @@ pub(crate) fn direction_name(direction: Direction) -> &'static [u8]
     }
 }
 
+pub(crate) fn push_direction_name(out: &mut Vec<u8>, direction: Direction) -> Result<(), AllocError>
+    ensures { OnOk result (out.new.items ≡ out.old.items ++ direction_name direction) }
+{
+    out.extend_from_slice(direction_name(direction))
+}
+
 /// That a row with this Direction isn't for what comes in.
-#[tactic(auto, unfolding(book_scope_plan::specs::DifferenceTexts::direction_text))]
 pub(crate) fn push_direction(out: &mut Vec<u8>, direction: Direction) -> Result<(), AllocError>
     ensures { OnOk result (out.new.items ≡ out.old.items ++ direction_text direction) }
 {
     out.extend_from_slice(b"Direction: ")?;
-    out.extend_from_slice(direction_name(direction))?;
-    out.extend_from_slice(b" isn't for what comes in\n")
+    push_direction_name(out, direction)?;
+    out.extend_from_slice(b" isn't for what comes in\n")?;
+    Ok(())
 }
 
 /// That the peers of a row don't have the address.
-#[tactic(auto, unfolding(book_scope_plan::specs::DifferenceTexts::peers_text))]
 pub(crate) fn push_peers(out: &mut Vec<u8>, address: &Address) -> Result<(), AllocError>
     ensures { OnOk result (out.new.items ≡ out.old.items ++ peers_text address.now) }
 {
     out.extend_from_slice(b"Peers: they don't have ")?;
     push_address(out, address)?;
-    out.push(b'\n')?;
+    out.extend_from_slice(b"\n")?;
     Ok(())
 }
 
+fn push_port_number(out: &mut Vec<u8>, port: u16) -> Result<(), AllocError>
+    ensures { OnOk result (out.new.items ≡ out.old.items ++ decimal port) }
+{
+    push_decimal(out, u64::from(port))
+}
+
 /// The port of a row, by the name of its column, and that of the connection.
-#[tactic(auto, unfolding(book_scope_plan::specs::DifferenceTexts::port_text))]
 pub(crate) fn push_port(
     out: &mut Vec<u8>,
     column: &[u8],
@@ -167,9 +183,9 @@ pub(crate) fn push_port(
 {
     out.extend_from_slice(column)?;
     out.extend_from_slice(b": ")?;
-    push_decimal(out, u64::from(one))?;
+    push_port_number(out, one)?;
     out.extend_from_slice(b", the connection has ")?;
-    push_decimal(out, u64::from(connected))?;
-    out.push(b'\n')?;
+    push_port_number(out, connected)?;
+    out.extend_from_slice(b"\n")?;
     Ok(())
 }

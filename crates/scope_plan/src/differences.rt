@@ -48,13 +48,13 @@ pub(crate) fn fewest(pair: &Pair, row: &Row, others: &[Row]) -> u8
 }
 
 /// A row of the other end differs in a column.
-#[tactic(auto, unfolding(book_scope_plan::specs::DifferenceTexts::difference_head))]
 fn push_head(out: &mut Vec<u8>, name: &[u8]) -> Result<(), AllocError>
     ensures { OnOk result (out.new.items ≡ out.old.items ++ difference_head name.now) }
 {
     out.extend_from_slice(b"    ")?;
     out.extend_from_slice(name)?;
-    out.extend_from_slice(b" differs in ")
+    out.extend_from_slice(b" differs in ")?;
+    Ok(())
 }
 
 fn push_ids_if(

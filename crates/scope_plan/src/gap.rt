@@ -5,7 +5,7 @@ ghost use Rattle.book_scope_plan.specs.FindingTexts.{row_name, seconds_between, 
 ghost use Rattle.book_scope_plan.specs.WayTexts.{begins_after, ends_before, gap_line, gap_lines, gap_text, is_kept_from, kept_line, kept_lines, longer_line, longer_over, sending_over, told_longer};
 ghost use Rattle.scope_plan.specs.Facings.{facing_of};
 
-use crate::columns::direction_name;
+use crate::columns::push_direction_name;
 use crate::facing::Facing;
 use crate::ways::{push_if, push_sending_line};
 use ao_base::push_decimal;
@@ -137,15 +137,14 @@ fn is_kept_from(pair: &Pair, gap: GapSeconds, row: &Row) -> bool
 }
 
 /// That the Direction of a row keeps it from sending.
-#[tactic(auto, unfolding(book_scope_plan::specs::WayTexts::kept_line))]
 fn push_kept_line(out: &mut Vec<u8>, name: &[u8], direction: Direction) -> Result<(), AllocError>
     ensures { OnOk result (out.new.items ≡ out.old.items ++ kept_line name.now direction) }
 {
     out.extend_from_slice(b"    ")?;
     out.extend_from_slice(name)?;
     out.extend_from_slice(b" isn't for sending: its Direction is ")?;
-    out.extend_from_slice(direction_name(direction))?;
-    out.push(b'\n')?;
+    push_direction_name(out, direction)?;
+    out.extend_from_slice(b"\n")?;
     Ok(())
 }
 

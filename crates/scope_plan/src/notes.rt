@@ -1,5 +1,5 @@
 //! What is noted of the rows of a plan, though nothing may be wrong with it.
-ghost use Rattle.std.specs.Prelude.{◌≡◌, ◌++◌, OnOk, length, nat_lt};
+ghost use Rattle.std.specs.Prelude.{◌≡◌, ◌++◌, OnOk, codes, length, nat_lt};
 ghost use Rattle.toml.specs.View.{table_view};
 ghost use Rattle.book_keys.specs.Rows.{matches};
 ghost use Rattle.book_scope_plan.specs.DifferenceTexts.{ends_in_feed};
@@ -80,8 +80,57 @@ fn push_note_if(out: &mut Vec<u8>, holds: bool, name: &[u8], words: &[u8]) -> Re
     out.extend_from_slice(words)
 }
 
+fn push_open(
+    out: &mut Vec<u8>,
+    name: &[u8],
+    pair: &Pair,
+    rows: &[Row],
+    row: &Row,
+) -> Result<(), AllocError>
+    ensures { OnOk result (out.new.items ≡ out.old.items ++ note_if (never_ends pair.now rows.now row.now) name.now (codes " never ends, though a later row is there\n")) }
+{
+    let is_due = never_ends(pair, rows, row);
+    push_note_if(
+        out,
+        is_due,
+        name,
+        b" never ends, though a later row is there\n",
+    )
+}
+
+fn push_old(
+    out: &mut Vec<u8>,
+    name: &[u8],
+    pair: &Pair,
+    rows: &[Row],
+    row: &Row,
+) -> Result<(), AllocError>
+    ensures { OnOk result (out.new.items ≡ out.old.items ++ note_if (has_old_key pair.now rows.now row.now) name.now (codes " has the Key of an earlier row\n")) }
+{
+    let is_due = has_old_key(pair, rows, row);
+    push_note_if(out, is_due, name, b" has the Key of an earlier row\n")
+}
+
+fn push_short_key(out: &mut Vec<u8>, name: &[u8], row: &Row) -> Result<(), AllocError>
+    ensures { OnOk result (out.new.items ≡ out.old.items ++ note_if (nat_lt (length row.now.master) 8) name.now (codes " has a Key under 8 bytes\n")) }
+{
+    let is_due = is_short(row.master());
+    push_note_if(out, is_due, name, b" has a Key under 8 bytes\n")
+}
+
+fn push_feed(out: &mut Vec<u8>, name: &[u8], row: &Row) -> Result<(), AllocError>
+    ensures { OnOk result (out.new.items ≡ out.old.items ++ note_if (ends_in_feed row.now.master) name.now (codes " has a Key that ends in 0a, a line feed\n")) }
+{
+    let is_due = ends_in_feed(row.master());
+    push_note_if(
+        out,
+        is_due,
+        name,
+        b" has a Key that ends in 0a, a line feed\n",
+    )
+}
+
 /// The notes on the lifetime and the Key of a row.
-#[tactic(auto, unfolding(book_scope_plan::specs::Notes::row_notes))]
 fn push_row_notes(
     out: &mut Vec<u8>,
     name: &[u8],
@@ -91,24 +140,11 @@ fn push_row_notes(
 ) -> Result<(), AllocError>
     ensures { OnOk result (out.new.items ≡ out.old.items ++ row_notes name.now pair.now rows.now row.now) }
 {
-    let is_open = never_ends(pair, rows, row);
-    push_note_if(
-        out,
-        is_open,
-        name,
-        b" never ends, though a later row is there\n",
-    )?;
-    let is_old = has_old_key(pair, rows, row);
-    push_note_if(out, is_old, name, b" has the Key of an earlier row\n")?;
-    let is_short = is_short(row.master());
-    push_note_if(out, is_short, name, b" has a Key under 8 bytes\n")?;
-    let is_fed = ends_in_feed(row.master());
-    push_note_if(
-        out,
-        is_fed,
-        name,
-        b" has a Key that ends in 0a, a line feed\n",
-    )
+    push_open(out, name, pair, rows, row)?;
+    push_old(out, name, pair, rows, row)?;
+    push_short_key(out, name, row)?;
+    push_feed(out, name, row)?;
+    Ok(())
 }
 
 /// The notes on a row of this number, where it is for the connection.

@@ -32,7 +32,7 @@ fn is_timeless(pair: &Pair, row: &Row) -> bool
 }
 
 #[tactic(auto, using(book_plans::proofs::DifferenceLaws::alike_accepts))]
-fn is_accepting_from(pair: &Pair, row: &Row, other: &Row) -> bool
+pub(crate) fn is_accepting_from(pair: &Pair, row: &Row, other: &Row) -> bool
     ensures { result ≡ accepts_from pair.now row.now other.now }
 {
     let differences = differences(pair, row, other);
@@ -116,8 +116,19 @@ fn switch_span(facing: &Facing, old: &Row, new: &Row) -> Option<Lifetime>
     span_by(&facing.plan, old_taker(facing, old), new_taker(facing, new))
 }
 
+fn push_node(out: &mut Vec<u8>, facing: &Facing) -> Result<(), AllocError>
+    ensures { OnOk result (out.new.items ≡ out.old.items ++ facing.now.node.now.name) }
+{
+    out.extend_from_slice(facing.node.name())
+}
+
+fn push_other(out: &mut Vec<u8>, facing: &Facing) -> Result<(), AllocError>
+    ensures { OnOk result (out.new.items ≡ out.old.items ++ facing.now.other.now.name) }
+{
+    out.extend_from_slice(facing.other.name())
+}
+
 /// From which row to which the node is to be reconfigured, and when.
-#[tactic(auto, unfolding(book_scope_plan::specs::Reconfiguring::switch_line))]
 fn push_switch_line(
     out: &mut Vec<u8>,
     facing: &Facing,
@@ -128,26 +139,27 @@ fn push_switch_line(
     ensures { OnOk result (out.new.items ≡ out.old.items ++ switch_line (facing_of facing.now) old new span) }
 {
     out.extend_from_slice(b"  or reconfigure ")?;
-    out.extend_from_slice(facing.node.name())?;
+    push_node(out, facing)?;
     out.extend_from_slice(b" from row ")?;
     push_number(out, old)?;
     out.extend_from_slice(b" to row ")?;
     push_number(out, new)?;
     out.extend_from_slice(b" at a time from ")?;
     push_times(out, span.first, span.last)?;
-    out.extend_from_slice(b", accepting both throughout\n")
+    out.extend_from_slice(b", accepting both throughout\n")?;
+    Ok(())
 }
 
 /// That it can't be.
-#[tactic(auto, unfolding(book_scope_plan::specs::Reconfiguring::no_switch_line))]
 fn push_no_switch(out: &mut Vec<u8>, facing: &Facing) -> Result<(), AllocError>
     ensures { OnOk result (out.new.items ≡ out.old.items ++ no_switch_line (facing_of facing.now)) }
 {
     out.extend_from_slice(b"  at no time can ")?;
-    out.extend_from_slice(facing.node.name())?;
+    push_node(out, facing)?;
     out.extend_from_slice(b" be reconfigured: ")?;
-    out.extend_from_slice(facing.other.name())?;
-    out.extend_from_slice(b" doesn't accept both rows for long enough\n")
+    push_other(out, facing)?;
+    out.extend_from_slice(b" doesn't accept both rows for long enough\n")?;
+    Ok(())
 }
 
 /// The first of two spans, told with the rows in its order; or that there is none.

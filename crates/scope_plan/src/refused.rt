@@ -19,7 +19,6 @@ fn has_recv_id(id: u8, rows: &[Row]) -> bool
 }
 
 /// That no row of the other end has the KeyID with which a row sends.
-#[tactic(auto, unfolding(book_scope_plan::specs::DifferenceTexts::no_id_line))]
 fn push_no_id(out: &mut Vec<u8>, name: &[u8], row: &Row) -> Result<(), AllocError>
     ensures { OnOk result (out.new.items ≡ out.old.items ++ no_id_line name.now row.now.send_id) }
 {
@@ -27,7 +26,7 @@ fn push_no_id(out: &mut Vec<u8>, name: &[u8], row: &Row) -> Result<(), AllocErro
     out.extend_from_slice(name)?;
     out.extend_from_slice(b" has no row for KeyID ")?;
     push_sent(out, row)?;
-    out.push(b'\n')?;
+    out.extend_from_slice(b"\n")?;
     Ok(())
 }
 
@@ -69,13 +68,12 @@ fn push_nearest_text(out: &mut Vec<u8>, facing: &Facing, row: &Row) -> Result<()
 }
 
 /// That a row's send lifetime ended before the plan begins.
-#[tactic(auto, unfolding(book_scope_plan::specs::DifferenceTexts::ended_line))]
 fn push_ended(out: &mut Vec<u8>, time: u64) -> Result<(), AllocError>
     ensures { OnOk result (out.new.items ≡ out.old.items ++ ended_line time) }
 {
     out.extend_from_slice(b"    its send lifetime ended before FROM, at ")?;
     push_instant(out, time)?;
-    out.push(b'\n')?;
+    out.extend_from_slice(b"\n")?;
     Ok(())
 }
 

@@ -1,13 +1,13 @@
 //! By how much the times of one end's rows are later than those of the other's.
-ghost use Rattle.std.specs.Prelude.{◌≡◌, ◌++◌, IfOk, OnOk};
+ghost use Rattle.std.specs.Prelude.{◌≡◌, ◌++◌, IfOk, OnOk, decimal};
 ghost use Rattle.std.specs.List.{list_any};
 ghost use Rattle.book_scope_plan.specs.Notes.{all_times, column_times, is_off, lifetime_times, row_times, shift_line, shift_of, shift_text, times_beside};
 
 use crate::facing::Facing;
+use crate::reconfiguring::is_accepting_from;
 use ao_base::push_decimal;
 use book_base::Pair;
 use book_scope_plan::TwoTimes;
-use key_plan::differences;
 use key_table::{LATEST, Lifetime, Row};
 use std::alloc::{AllocError, Global};
 
@@ -38,8 +38,15 @@ fn add_lifetimes(
     add_column(times, LATEST, one.last, other.last)
 }
 
+/// The times of both lifetimes of two rows.
+fn add_both(times: &mut Vec<TwoTimes>, row: &Row, other: &Row) -> Result<(), AllocError>
+    ensures { OnOk result (times.new.items ≡ times.old.items ++ (lifetime_times row.now.sending other.now.sending ++ lifetime_times row.now.accepting other.now.accepting)) }
+{
+    add_lifetimes(times, row.sending(), other.sending())?;
+    add_lifetimes(times, row.accepting(), other.accepting())
+}
+
 /// The times of two rows, where the second accepts what the first sends.
-#[tactic(auto, using(book_plans::proofs::DifferenceLaws::alike_accepts))]
 fn add_rows(
     times: &mut Vec<TwoTimes>,
     pair: &Pair,
@@ -48,11 +55,11 @@ fn add_rows(
 ) -> Result<(), AllocError>
     ensures { OnOk result (times.new.items ≡ times.old.items ++ row_times pair.now row.now other.now) }
 {
-    if !differences(pair, row, other).is_none() {
-        return Ok(());
+    if is_accepting_from(pair, row, other) {
+        add_both(times, row, other)
+    } else {
+        Ok(())
     }
-    add_lifetimes(times, row.sending(), other.sending())?;
-    add_lifetimes(times, row.accepting(), other.accepting())
 }
 
 /// The times of a row and each row of the other end that accepts what it sends.
@@ -121,7 +128,12 @@ fn shift_of(times: &[TwoTimes]) -> Option<u64>
     }
 }
 
-#[tactic(auto, unfolding(book_scope_plan::specs::Notes::shift_line))]
+fn push_seconds(out: &mut Vec<u8>, seconds: u64) -> Result<(), AllocError>
+    ensures { OnOk result (out.new.items ≡ out.old.items ++ decimal seconds) }
+{
+    push_decimal(out, seconds)
+}
+
 fn push_shift_line(
     out: &mut Vec<u8>,
     name: &[u8],
@@ -133,10 +145,11 @@ fn push_shift_line(
     out.extend_from_slice(b"  note: ")?;
     out.extend_from_slice(later)?;
     out.extend_from_slice(b"'s times are all ")?;
-    push_decimal(out, seconds)?;
+    push_seconds(out, seconds)?;
     out.extend_from_slice(b" s later than ")?;
     out.extend_from_slice(name)?;
-    out.extend_from_slice(b"'s\n")
+    out.extend_from_slice(b"'s\n")?;
+    Ok(())
 }
 
 fn push_shift_text(
