@@ -23,7 +23,10 @@ ADDRESS PORT ADDRESS PORT; an empty line and one that begins with # say nothing.
 Of each connection there is a line for each time after FROM until TO at which a row begins or ends to be \
 accepted or sent with, or begins to be asked for; then each row that the other end doesn't take, and in which \
 columns the nearest differ or what a lifetime is to be set to; then each gap in which a node has no row to send \
-with. Where nothing is wrong it says aligned, and up to which LEAD and LAG it stays so.
+with. Where nothing is wrong it says aligned, and up to which LEAD and LAG it stays so. Where in that time neither end \
+begins to send with another row it says that no key changes. A line that begins with note: tells what is \
+worth a look though it may hold: a key that never ends, is short, was used before or ends in a line feed, and times of one \
+end that are all later by the same whole hours.
 
 With --draw there is a bar instead for each row and whether it accepts or sends, over the time from FROM to TO: # is \
 a column in each second of which it does so, + one in some of which. Below them each column is marked with ! in \
@@ -31,10 +34,11 @@ which something is wrong: a row that the other end doesn't take may send in it, 
 
 With --draw --svg these bars are one picture that a browser shows, each at the very seconds in which its row does so, \
 in a colour for each KeyID, filled where it sends and white where it accepts. Below them a black box stands over each \
-column that has a !. Each bar has a title that says from when to when its row may do so, and each box one that says \
-when it is.
+column that has a !. Each bar has a title with the whole lifetime of its row, also where Direction keeps the row from \
+doing so, and each box one that says when it is.
 
-Status 0: all plans are aligned; 1: one isn't, or no node has an address, or there is no connection or no node; 2: usage, \
+Status 0: all plans are aligned and change a key; 1: one isn't or doesn't, or no node has an address, or there is no \
+connection or no node; 2: usage, \
 also where FROM is after TO; 3: keys; the others as above.
 
     aoscope plan KEYS 60 60 2026-12-01T00:00:00Z 2027-02-01T00:00:00Z < CONNECTIONS

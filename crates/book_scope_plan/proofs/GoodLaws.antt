@@ -1,5 +1,5 @@
 -- A plan is good exactly where the judgement is that it is aligned, and then its text says so.
-use Rattle.std.proofs.Common.{◌≡◌, ◌↔◌, ◌++◌, ◌&&◌, Bool, true, false, List, [], ◌∷◌, Some, refl, ap, ◌∙◌}
+use Rattle.std.proofs.Common.{◌≡◌, ◌↔◌, ◌++◌, ◌&&◌, not, Bool, true, false, List, [], ◌∷◌, Some, refl, ap, ◌∙◌}
 use Rattle.std.specs.Prelude.{is_some}
 use Rattle.book_base.specs.declared.address.Pair.{Pair}
 use Rattle.book_keys.specs.declared.plan.Plan.{Plan}
@@ -13,7 +13,9 @@ use Rattle.book_plans.proofs.FindingLaws.{none_exactly}
 use Rattle.book_plans.proofs.MarginLaws.{lead_judged, lag_judged}
 use Rattle.book_scope_plan.specs.AdminNames.{KeyFile}
 use Rattle.book_scope_plan.specs.CalendarTexts.{calendar_text}
-use Rattle.book_scope_plan.specs.PlanTexts.{aligned_line, connection_line, connection_text, facing, findings_text, has_none, is_good_plan, node_with, nodes_text, plan_findings}
+use Rattle.book_scope_plan.specs.FindingTexts.{text_if}
+use Rattle.book_scope_plan.specs.Notes.{notes_text}
+use Rattle.book_scope_plan.specs.PlanTexts.{aligned_line, changes_key, connection_line, connection_text, facing, findings_text, has_none, is_good_plan, node_with, nodes_text, plan_findings, unchanged_line}
 
 none_from : (fs : List Finding) → has_none fs ≡ true → fs ≡ []
 none_from [] h = refl
@@ -70,9 +72,13 @@ pub good_text : (keys : KeyFile) (plan : Plan) (pair : Pair) (a b : Table)
     → is_good_plan keys.tables plan pair ≡ true
     → connection_text keys plan pair
     ≡ connection_line pair ++ (calendar_text a b (calendar_of keys.tables pair plan.from plan.to)
-    ++ aligned_line (lead_margin_of keys.tables pair plan.lag) (lag_margin_of keys.tables pair plan.lead))
+    ++ (text_if (not (changes_key keys.tables plan pair)) (unchanged_line plan)
+    ++ (aligned_line (lead_margin_of keys.tables pair plan.lag) (lag_margin_of keys.tables pair plan.lead)
+    ++ notes_text (facing keys a b plan pair))))
 unfolding connection_text
 good_text keys plan pair a b at_a at_b good =
     ap (λ o. connection_line pair ++ nodes_text o (node_with keys.tables pair.remote.address) keys plan pair) at_a
     ∙ ap (λ o. connection_line pair ++ nodes_text (Some a) o keys plan pair) at_b
-    ∙ ap (λ fs. connection_line pair ++ (calendar_text a b (calendar_of keys.tables pair plan.from plan.to) ++ findings_text (facing keys a b plan pair) keys.tables fs)) (good_findings keys.tables plan pair good)
+    ∙ ap (λ fs. connection_line pair ++ (calendar_text a b (calendar_of keys.tables pair plan.from plan.to)
+    ++ (text_if (not (changes_key keys.tables plan pair)) (unchanged_line plan)
+    ++ (findings_text (facing keys a b plan pair) keys.tables fs ++ notes_text (facing keys a b plan pair))))) (good_findings keys.tables plan pair good)

@@ -1,11 +1,10 @@
--- What is written of rows of two ends that don't fit: in which columns they differ, and how long
--- one accepts what the other sends. Its tops are `refused_text` and `lifetime_lines`.
-use Rattle.std.specs.Prelude.{ℕ, ◌+◌, ◌-◌, ◌==◌, min, nat_lt, Bool, true, false, List, [], ◌∷◌}
+-- What is written of a row that isn't met at the other end: its line, and how long a row there
+-- accepts what it sends. Its tops are `unmet_line` and `lifetime_lines`.
+use Rattle.std.specs.Prelude.{ℕ, ◌+◌, ◌-◌, min, nat_lt, Bool, true, false, List, [], ◌∷◌}
 use Rattle.std.specs.Prelude.{◌++◌, codes, decimal, Option, Some, None}
 use Rattle.book_base.specs.declared.address.Pair.{Pair}
 use Rattle.book_base.specs.declared.end.End.{End}
 use Rattle.book_base.specs.declared.end.End.TheVariants.{A, B}
-use Rattle.book_base.specs.Algorithms.{name_of}
 use Rattle.book_keys.specs.declared.lifetime.Lifetime.{Lifetime}
 use Rattle.book_keys.specs.Plans.{mirrored}
 use Rattle.book_keys.specs.Rows.{Row, Table}
@@ -71,68 +70,9 @@ unfoldable pub row_name : Members → (name : List ℕ) → ℕ → List ℕ
 row_name document name n =
     name ++ (codes " row " ++ (decimal n ++ admin_text (admin_name document name n)))
 
--- a row of the other end, of this name, differs in a column (own)
-unfoldable pub difference_head : (row : List ℕ) → List ℕ
-difference_head row = codes "    " ++ (row ++ codes " differs in ")
-
--- the two KeyIDs (RFC 5925, section 3.1)
-unfoldable pub ids_text : (sending other : Row) → List ℕ
-ids_text r o =
-    codes "KeyID: sent " ++ (decimal r.send_id
-    ++ (codes ", received " ++ (decimal o.recv_id ++ 10 ∷ [])))
-
--- the two algorithms (RFC 5926, section 3.2)
-unfoldable pub algorithms_text : (sending other : Row) → List ℕ
-algorithms_text r o =
-    codes "AlgID: " ++ (name_of r.algorithm ++ (codes " and " ++ (name_of o.algorithm ++ 10 ∷ [])))
-
--- that the keys differ; no key is shown (RFC 7210, section 2, and own)
-unfoldable pub key_words : List ℕ
-key_words = codes "Key: the two keys aren't equal\n"
-
--- that one of two rows leaves the TCP options out of the MAC (RFC 5925, section 5.1)
-unfoldable pub options_words : List ℕ
-options_words = codes "ProtocolSpecificInfo: one alone covers the TCP options\n"
-
--- that a row isn't for what comes in (RFC 7210, section 2)
-unfoldable pub direction_words : List ℕ
-direction_words = codes "Direction: it isn't for what comes in\n"
-
--- that a row isn't for the connection (RFC 7210, section 2, and own)
-unfoldable pub connection_words : List ℕ
-connection_words = codes "Peers, LocalPort or PeerPort: it isn't for this connection\n"
-
 -- that a row is taken, but not for long enough (own)
 unfoldable pub short_words : List ℕ
 short_words = codes " takes it for long enough\n"
-
--- the lines of the columns that make up the key in which a row of the other end, of this name,
--- differs from one that accepts what a row sends (RFC 7210, section 2, and own)
-unfoldable pub key_column_lines : (row : List ℕ) → (sending other : Row) → Differences → List ℕ
-key_column_lines row r o d =
-    text_if d.key_id (difference_head row ++ ids_text r o)
-    ++ (text_if d.master (difference_head row ++ key_words)
-    ++ text_if d.algorithm (difference_head row ++ algorithms_text r o))
-
--- the lines of the columns that say what for (RFC 7210, section 2, and own)
-unfoldable pub use_column_lines : (row : List ℕ) → Differences → List ℕ
-use_column_lines row d =
-    text_if d.options (difference_head row ++ options_words)
-    ++ (text_if d.direction (difference_head row ++ direction_words)
-    ++ text_if d.connection (difference_head row ++ connection_words))
-
--- the lines of all columns in which it differs (RFC 7210, section 2, and own)
-unfoldable pub difference_lines : (row : List ℕ) → (sending other : Row) → Differences → List ℕ
-difference_lines row r o d = key_column_lines row r o d ++ use_column_lines row d
-
--- the lines of the rows of the other end that differ in so many columns, the first row having
--- number n (own)
-abbrev pub nearest_lines : Facing → Row → (count first : ℕ) → (others : List Row) → List ℕ
-nearest_lines f r count n [] = []
-nearest_lines f r count n (o ∷ os) =
-    text_if (difference_count (differences f.pair r o) == count)
-    (difference_lines (row_name f.document f.other.name n) r o (differences f.pair r o))
-    ++ nearest_lines f r count (n + 1) os
 
 -- a row of a node accepts (own)
 unfoldable pub accepting_row : (name : List ℕ) → ℕ → List ℕ
@@ -186,14 +126,6 @@ unfoldable pub unmet_line : Facing → ℕ → Row → (words : List ℕ) → Li
 unmet_line f n r words =
     codes "  WRONG "
     ++ (row_name f.document f.node.name n ++ (sent_id_text r ++ (f.other.name ++ words)))
-
--- what is said of a row that no row of the other end accepts: in which columns the nearest rows
--- differ (own)
-abbrev pub refused_text : Facing → ℕ → Option Row → List ℕ
-refused_text f n None = []
-refused_text f n (Some r) =
-    unmet_line f n r (codes " takes it\n")
-    ++ nearest_lines f r (fewest f.pair r 7 f.other.rows) 1 f.other.rows
 
 -- the seconds from one to another, both included; 2^64 - 1 of them stand for more (own)
 abbrev pub seconds_between : (first last : ℕ) → ℕ

@@ -2,9 +2,12 @@
 -- another lifetime of one row, or what stands in its way. Its top is `finding_text`.
 use Rattle.std.specs.Prelude.{ℕ, ◌+◌, ◌-◌, ◌==◌, ◌&&◌, ◌||◌, not, nat_lt, Bool, true, false, List}
 use Rattle.std.specs.Prelude.{[], ◌∷◌, ◌++◌, codes, decimal, Option, Some, None, if◌then◌else◌}
+use Rattle.book_base.specs.declared.address.Pair.{Pair}
 use Rattle.book_keys.specs.declared.lifetime.Lifetime.{Lifetime}
 use Rattle.book_keys.specs.declared.plan.Plan.{Plan}
-use Rattle.book_keys.specs.Rows.{Row, sends_for}
+use Rattle.book_keys.specs.declared.direction.Direction.{Direction}
+use Rattle.book_keys.specs.Overlaps.{lifetimes_meet}
+use Rattle.book_keys.specs.Rows.{Row, matches, sends, sends_for}
 use Rattle.book_plans.specs.declared.finding.Finding.{Finding}
 use Rattle.book_plans.specs.declared.finding.Finding.TheVariants as finding
 use Rattle.book_plans.specs.declared.obstacle.Obstacle.{Obstacle}
@@ -15,7 +18,8 @@ use Rattle.book_plans.specs.Ways.{sending_obstacle}
 use Rattle.book_scope_texts.specs.Instants.{key_time_text}
 use Rattle.book_scope_plan.specs.declared.gap_seconds.GapSeconds.{GapSeconds}
 use Rattle.book_scope_plan.specs.CalendarTexts.{row_numbered}
-use Rattle.book_scope_plan.specs.FindingTexts.{Facing, facing_at, lifetime_lines, refused_text}
+use Rattle.book_scope_plan.specs.DifferenceTexts.{direction_name, refused_text}
+use Rattle.book_scope_plan.specs.FindingTexts.{Facing, facing_at, lifetime_lines}
 use Rattle.book_scope_plan.specs.FindingTexts.{row_name, seconds_text, short_words, text_if}
 use Rattle.book_scope_plan.specs.FindingTexts.{times_text, unmet_line}
 
@@ -33,7 +37,7 @@ moved_text start end row l m =
 -- why another lifetime of a row won't do (own)
 unfoldable pub obstacle_text : Obstacle → List ℕ
 obstacle_text obstacle.Empty = codes "it would end before it begins"
-obstacle_text obstacle.Endless = codes "it would never end"
+obstacle_text obstacle.Endless = codes "that is the last time of all, so it would never end"
 obstacle_text (obstacle.Overlap n) = codes "it would overlap row " ++ decimal n
 obstacle_text obstacle.Refused = codes "the other end wouldn't take it for long enough"
 obstacle_text obstacle.Gap = codes "at some time no row would be left to send with"
@@ -176,9 +180,33 @@ gap_line name g =
     codes "  WRONG " ++ (name ++ (codes " has no row to send with from "
     ++ (times_text g.first g.last ++ seconds_text g.first g.last)))
 
+-- for the connection a row could send in some second of a gap, but for its Direction (RFC 7210,
+-- section 2, and own)
+abbrev pub is_kept_from : Pair → GapSeconds → Row → Bool
+is_kept_from pair g r =
+    matches r pair && (not (sends r.direction)
+    && lifetimes_meet r.sending (record { first = g.first; last = g.last }))
+
+-- that the Direction of a row, of this name, keeps it from sending (own)
+unfoldable pub kept_line : (row : List ℕ) → Direction → List ℕ
+kept_line row d =
+    codes "    " ++ (row ++ (codes " isn't for sending: its Direction is " ++ (direction_name d
+    ++ 10 ∷ [])))
+
+-- the lines of the rows that their Direction alone keeps from sending in a gap, the first row
+-- having number n (own)
+abbrev pub kept_lines : Facing → GapSeconds → (first : ℕ) → List Row → List ℕ
+kept_lines f g n [] = []
+kept_lines f g n (r ∷ rs) =
+    text_if (is_kept_from f.pair g r)
+    (kept_line (row_name f.document f.node.name n) r.direction)
+    ++ kept_lines f g (n + 1) rs
+
 -- what is said of a gap, and what to set (own)
 abbrev pub gap_text : Facing → GapSeconds → List ℕ
-gap_text f g = gap_line f.node.name g ++ gap_lines f g false 1 f.node.rows
+gap_text f g =
+    gap_line f.node.name g
+    ++ (kept_lines f g 1 f.node.rows ++ gap_lines f g false 1 f.node.rows)
 
 -- what is said of a finding on a connection, which is given as end a sees it (own)
 abbrev pub finding_text : Facing → Finding → List ℕ

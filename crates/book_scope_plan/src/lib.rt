@@ -7,7 +7,9 @@
 mod gap_seconds;
 mod laws;
 mod told;
+mod two_times;
 
 pub use gap_seconds::GapSeconds;
-pub use laws::{aligned_plans_are_of_lint, good_plans_say_aligned};
+pub use laws::{aligned_plans_are_of_lint, good_plans_say_aligned, unchanged_keys_stay};
 pub use told::Told;
+pub use two_times::TwoTimes;

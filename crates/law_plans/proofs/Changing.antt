@@ -2,9 +2,8 @@
 use Rattle.std.proofs.Common.{◌≡◌, ℕ, zero, suc, ◌+◌, ◌<◌, ◌==◌, ◌&&◌, ◌||◌, not, Bool, true, false, List, [], ◌∷◌, length, get_or, Option, Some, None, ◌⊎◌, inl, inr, refl, sym, ap, ◌∙◌, subst, arith, if◌then◌else◌}
 use Rattle.std.proofs.lemmas.Bool.{eq-eqb, ne_eqb, eqb-false}
 use Rattle.std.specs.List.{list_any, AllByRecursion, slice_get}
-use Rattle.book_base.specs.declared.address.Pair.{Pair}
 use Rattle.book_segments.proofs.Fields.{eqb_is}
-use Rattle.book_keys.specs.Overlaps.{AreApart, BothAccept, BothSend, IsValid, Overlap, overlaps}
+use Rattle.book_keys.specs.Overlaps.{AreApart, IsValid, Overlap, overlaps}
 use Rattle.book_keys.specs.Rows.{Row}
 use Rattle.book_keys.proofs.OverlapLaws.{overlaps-Overlap, Overlap-overlaps}
 use Rattle.book_plans.specs.Ways.{changed_row, first_clash}

@@ -1,3 +1,4 @@
 mod Changing
 mod Mending
+mod Reconfigured
 mod Telling

@@ -1,5 +1,5 @@
 -- Another lifetime in whose way nothing stands mends the plan.
-use Rattle.std.proofs.Common.{◌≡◌, ◌↔◌, ℕ, zero, suc, ◌+◌, ◌-◌, ◌<◌, ◌≤◌, ◌==◌, ◌&&◌, ◌||◌, not, max, min, nat_le, nat_lt, Bool, true, false, List, [], ◌∷◌, ◌++◌, map, length, get_or, Option, Some, None, ◌⊎◌, inl, inr, refl, sym, ap, ◌∙◌, subst, arith, if◌then◌else◌}
+use Rattle.std.proofs.Common.{◌≡◌, ℕ, zero, suc, ◌+◌, ◌-◌, ◌≤◌, ◌&&◌, not, min, nat_lt, Bool, true, false, List, [], ◌∷◌, ◌++◌, map, Option, Some, None, ◌⊎◌, inl, inr, refl, sym, ap, ◌∙◌, subst, arith, if◌then◌else◌}
 use Rattle.std.specs.Prelude.{option_map}
 use Rattle.std.specs.List.{list_any, AllByRecursion, slice_get}
 use Rattle.book_base.specs.declared.address.Pair.{Pair}
@@ -11,7 +11,7 @@ use Rattle.book_keys.specs.declared.lint.LintAnswer.TheVariants as answer
 use Rattle.book_keys.specs.declared.plan.Plan.{Plan}
 use Rattle.book_keys.specs.Lifetimes.{contains, greatest_time}
 use Rattle.book_keys.specs.Overlaps.{IsValid}
-use Rattle.book_keys.specs.Plans.{mirrored, accepts_from, accepts_throughout, outlasts, Aligned, AlignedFrom, IsMet, IsGap, gap, has_sendable, lint_rows, Reason, NoPeerRow, ShortAccept, unmet_reason}
+use Rattle.book_keys.specs.Plans.{mirrored, accepts_from, accepts_throughout, outlasts, AlignedFrom, IsMet, IsGap, gap, has_sendable, lint_rows, Reason, NoPeerRow, ShortAccept, unmet_reason}
 use Rattle.book_keys.specs.Rows.{Row, sends_for, sendable}
 use Rattle.book_keys.proofs.GapLaws.{gap_exactly, lint_aligned}
 use Rattle.book_keys.proofs.PlanLaws.{from_contains, to_contains}
@@ -28,7 +28,7 @@ use Rattle.law_plans.proofs.Changing.{all_but, all_same, any_here, any_same, any
 
 -- ---- what findings say of rows
 
-all_parts : (P : Finding → Type 0) (fs gs : List Finding) → AllByRecursion P (fs ++ gs) → AllByRecursion P fs × AllByRecursion P gs
+pub all_parts : (P : Finding → Type 0) (fs gs : List Finding) → AllByRecursion P (fs ++ gs) → AllByRecursion P fs × AllByRecursion P gs
 all_parts P [] gs all = (tt, all)
 all_parts P (f ∷ fs) gs all = let more = all_parts P fs gs all.1 in ((all.0, more.0), more.1)
 
@@ -61,16 +61,16 @@ met_of true true false e sends = absurd (cc)
 met_of true false t e sends = absurd (cc)
 met_of false a t e sends = absurd (cc)
 
-no_reason_met : (others : List Row) (pair : Pair) (lead lag : ℕ) (r : Row) → unmet_reason others pair lead lag r ≡ None → IsMet others pair lead lag r
+pub no_reason_met : (others : List Row) (pair : Pair) (lead lag : ℕ) (r : Row) → unmet_reason others pair lead lag r ≡ None → IsMet others pair lead lag r
 no_reason_met others pair lead lag r e sends =
     met_of (sends_for pair r) (list_any (accepts_from pair r) others) (list_any (accepts_throughout pair lead lag r) others) e sends
 
-got_all : (P : Row → Type 0) (rows : List Row) → ((i : ℕ) (r : Row) → slice_get rows i ≡ Some r → P r) → AllByRecursion P rows
+pub got_all : (P : Row → Type 0) (rows : List Row) → ((i : ℕ) (r : Row) → slice_get rows i ≡ Some r → P r) → AllByRecursion P rows
 got_all P [] each = tt
 got_all P (r ∷ rs) each = (each zero r refl, got_all P rs (λ i q got. each (suc i) q got))
 
 -- rows that are met are still met where each row that was accepted throughout still is
-each_met : (qs rows new : List Row) (pair : Pair) (lead lag : ℕ)
+pub each_met : (qs rows new : List Row) (pair : Pair) (lead lag : ℕ)
     → ((q : Row) → list_any (accepts_throughout pair lead lag q) rows ≡ true → list_any (accepts_throughout pair lead lag q) new ≡ true)
     → AlignedFrom qs rows pair lead lag → AlignedFrom qs new pair lead lag
 each_met [] rows new pair lead lag keeps met = tt
@@ -94,7 +94,7 @@ no_gap rows pair low high none =
     let each : IsGap rows pair low high None = λ t a b. longest t a (omega arith) in
     (gap_exactly rows pair low high None).1 each
 
-none_gap : (P : Finding → Type 0) (end : End) → ((first last : ℕ) → P (finding.Gap end first last) → ⊥) → (rows : List Row) (pair : Pair) (low high : ℕ)
+pub none_gap : (P : Finding → Type 0) (end : End) → ((first last : ℕ) → P (finding.Gap end first last) → ⊥) → (rows : List Row) (pair : Pair) (low high : ℕ)
     → AllByRecursion P (gap_findings end rows pair low high) → gap rows pair low high ≡ None
 none_gap P end never rows pair low high all =
     no_gap rows pair low high (no_spans P end never (failing_spans (has_sendable rows pair) low (high + 1 - low)) all)

@@ -1,4 +1,4 @@
--- Which findings are of one row of an end, or of its gaps, and a connection of which one row is changed.
+-- Which findings are of one row of an end, or of its gaps, and a connection of which rows are changed.
 use Rattle.std.specs.Prelude.{◌≡◌, ℕ}
 use Rattle.book_base.specs.declared.end.End.{End}
 use Rattle.book_base.specs.declared.end.End.TheVariants.{A, B}
@@ -8,6 +8,7 @@ use Rattle.book_keys.specs.Plans.{lint_rows}
 use Rattle.book_keys.specs.Rows.{Row}
 use Rattle.book_plans.specs.Ways.{changed_row}
 use Rattle.book_scope_plan.specs.FindingTexts.{Facing}
+use Rattle.book_scope_plan.specs.Reconfiguring.{switched}
 use Rattle.book_plans.specs.declared.finding.Finding.{Finding}
 use Rattle.book_plans.specs.declared.finding.Finding.TheVariants as finding
 
@@ -36,3 +37,13 @@ changed_at B change n f = record f { other = record f.other { rows = changed_row
 -- the tables of both ends are valid, and the judgement on the connection is `Aligned`
 abbrev pub IsMended : Facing → Type 0
 IsMended f = IsValid f.node.rows × (IsValid f.other.rows × (lint_rows f.node.rows f.other.rows f.pair f.plan ≡ answer.Aligned))
+
+-- a connection whose end sends with its old row until the time, and from then on with the new one; it is given as end a
+-- sees it
+abbrev pub switched_at : End → (old new time : ℕ) → Facing → Facing
+switched_at A n m time f = record f { node = record f.node { rows = switched f.plan n m time f.node.rows } }
+switched_at B n m time f = record f { other = record f.other { rows = switched f.plan n m time f.other.rows } }
+
+-- the judgement on the connection is `Aligned`
+abbrev pub IsAligned : Facing → Type 0
+IsAligned f = lint_rows f.node.rows f.other.rows f.pair f.plan ≡ answer.Aligned

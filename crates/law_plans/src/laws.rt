@@ -1,5 +1,5 @@
 //! Theorems about the ways to mend a plan, as clauses of functions that do nothing.
-ghost use Rattle.std.specs.Prelude.{◌≡◌, ◌≤◌, ◌-◌, ℕ, true, List, [], ◌∷◌, None, Some};
+ghost use Rattle.std.specs.Prelude.{◌≡◌, ◌≤◌, ◌<◌, ◌-◌, ℕ, true, List, [], ◌∷◌, None, Some};
 ghost use Rattle.std.specs.List.{AllByRecursion, slice_get};
 ghost use Rattle.book_base.specs.declared.address.Pair.{Pair};
 ghost use Rattle.book_base.specs.declared.end.End.{End};
@@ -7,6 +7,7 @@ ghost use Rattle.book_base.specs.declared.end.End.TheVariants.{A, B};
 ghost use Rattle.book_keys.specs.declared.lifetime.Lifetime.{Lifetime};
 ghost use Rattle.book_keys.specs.declared.lint.LintAnswer.TheVariants as answer;
 ghost use Rattle.book_keys.specs.declared.plan.Plan.{Plan};
+ghost use Rattle.book_keys.specs.Lifetimes.{greatest_time};
 ghost use Rattle.book_keys.specs.Overlaps.{IsValid};
 ghost use Rattle.book_keys.specs.Plans.{accepts_from, lint_rows, mirrored};
 ghost use Rattle.book_keys.specs.Rows.{Row};
@@ -17,8 +18,9 @@ ghost use Rattle.book_plans.specs.Margins.{IsOrdered};
 ghost use Rattle.book_plans.specs.Ways.{accepting_obstacle, changed_row, fitting_accepting, fitting_sending, sending_in, sending_obstacle};
 ghost use Rattle.book_scope_plan.specs.CalendarTexts.{row_numbered};
 ghost use Rattle.book_scope_plan.specs.FindingTexts.{Facing, facing_at};
+ghost use Rattle.book_scope_plan.specs.Reconfiguring.{is_timeless, switch_span};
 ghost use Rattle.book_scope_plan.specs.WayTexts.{longer_over, may_lengthen, may_shorten, sending_way};
-ghost use Rattle.law_plans.specs.Own.{IsGapOrRow, IsMended, IsOfRow, changed_at, far_end};
+ghost use Rattle.law_plans.specs.Own.{IsAligned, IsGapOrRow, IsMended, IsOfRow, changed_at, far_end, switched_at};
 
 /// Where each finding on a plan is a gap of an end or on its row of one number, and nothing stands in the way of
 /// another send lifetime of that row, then with that lifetime the end's table is valid, and the judgement is
@@ -74,4 +76,22 @@ pub fn told_ways_mend()
         → longer_over (facing_at e f) (record { first = first; last = last }) r ≡ Some l
         → sending_way (facing_at e f) n r l ≡ None
         → IsMended (changed_at e (sending_in l) n f) }
+{}
+
+/// Where a plan has no finding but that two rows of an end, which have no lifetimes, aren't taken for long enough, then
+/// at each of the times between which the text says to reconfigure that end from one of them to the other, the judgement
+/// is `Aligned` where the end sends with the one from FROM until that time, and from then on until TO with the other.
+pub fn reconfigured_ends_are_aligned()
+    ensures there { (f : Facing) (e : End) (n m time : ℕ) (r o : Row) (s : Lifetime)
+        → 1 ≤ n → n < m → f.plan.to ≤ greatest_time
+        → findings f.node.rows f.other.rows f.pair f.plan ≡ finding.ShortAccept e n ∷ finding.ShortAccept e m ∷ []
+        → row_numbered (facing_at e f).node.rows n ≡ Some r → row_numbered (facing_at e f).node.rows m ≡ Some o
+        → is_timeless (facing_at e f).pair r ≡ true → is_timeless (facing_at e f).pair o ≡ true
+        → switch_span (facing_at e f) r o ≡ Some s → s.first ≤ time → time ≤ s.last → IsAligned (switched_at e n m time f) }
+    ensures back { (f : Facing) (e : End) (n m time : ℕ) (r o : Row) (s : Lifetime)
+        → 1 ≤ n → n < m → f.plan.to ≤ greatest_time
+        → findings f.node.rows f.other.rows f.pair f.plan ≡ finding.ShortAccept e n ∷ finding.ShortAccept e m ∷ []
+        → row_numbered (facing_at e f).node.rows n ≡ Some r → row_numbered (facing_at e f).node.rows m ≡ Some o
+        → is_timeless (facing_at e f).pair r ≡ true → is_timeless (facing_at e f).pair o ≡ true
+        → switch_span (facing_at e f) o r ≡ Some s → s.first ≤ time → time ≤ s.last → IsAligned (switched_at e m n time f) }
 {}

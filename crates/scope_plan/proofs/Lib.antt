@@ -1,3 +1,4 @@
+mod PartLaws
 mod PlannedLaws
 pub mod ReportLaws
 mod WayLaws

@@ -13,7 +13,7 @@ use Rattle.text_lines.proofs.SaidLaws.{said_few, same_fault}
 use Rattle.book_draw_plan.specs.declared.form.PlanForm.{PlanForm}
 use Rattle.book_keys.specs.declared.plan.Plan.{Plan}
 use Rattle.book_scope_plan.specs.Connections.{plan_pair_of}
-use Rattle.book_scope_plan.specs.PlanTexts.{has_wrong_plan, is_good_plan}
+use Rattle.book_scope_plan.specs.PlanTexts.{has_wrong_plan, is_right_plan}
 use Rattle.scope_plan.specs.declared.planned.Planned.{Planned}
 use Rattle.scope_plan.specs.Plannings.{body_as, connection_as, count_as, lines_as, planned_from}
 
@@ -42,7 +42,7 @@ plus_none a = omega arith
 module _ (form : PlanForm) (keys : KeyFile) (plan : Plan) where
   -- something is wrong with the connection of this line
   abbrev is_wrong : Said Pair → Bool
-  is_wrong s = not (is_good_plan keys.tables plan s.value)
+  is_wrong s = not (is_right_plan keys.tables plan s.value)
 
   -- the answer so far, and later the connections of the lines
   abbrev from_lines : List ℕ → ℕ → Bool → List Line → Result Planned TextFault

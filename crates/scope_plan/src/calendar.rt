@@ -12,7 +12,7 @@ use key_plan::Turn;
 use scope_texts::push_instant;
 use std::alloc::{AllocError, Global};
 
-fn are_both_ends(one: End, other: End) -> bool
+pub(crate) fn are_both_ends(one: End, other: End) -> bool
     ensures { result ≡ are_both_ends one other }
 {
     match one {

@@ -1,7 +1,9 @@
 //! What is said of a connection.
 ghost use Rattle.std.specs.Prelude.{◌≡◌, ◌++◌, OnOk, IfOk};
+ghost use Rattle.std.specs.List.{list_any};
 ghost use Rattle.book_plans.specs.Margins.{lead_margin_of, lag_margin_of};
-ghost use Rattle.book_scope_plan.specs.PlanTexts.{aligned_line, both_text, connection_text, facing, findings_text, has_none, is_good_plan, margin_text, node_with, nodes_text, plan_findings};
+ghost use Rattle.book_scope_plan.specs.FindingTexts.{text_if};
+ghost use Rattle.book_scope_plan.specs.PlanTexts.{aligned_line, begins_sending, both_text, connection_text, facing, findings_text, has_none, is_good_plan, margin_text, node_with, nodes_text, plan_findings, unchanged_line};
 ghost use Rattle.scope_plan.specs.Facings.{facing_of};
 ghost use Rattle.scope_plan.specs.KeyFiles.{key_file_of};
 
@@ -9,14 +11,16 @@ use crate::calendar::push_calendar;
 use crate::facing::Facing;
 use crate::findings::push_findings;
 use crate::key_file::KeyFile;
+use crate::notes::push_notes;
+use crate::reconfiguring::push_reconfiguring;
 use ao_base::push_decimal;
 use book_base::Pair;
 use book_cmd_keys::Plan;
 use both_ends::BothEnds;
 use draw_plan::Connected;
-use key_plan::{Finding, Margin, calendar, findings, lag_margin, lead_margin};
+use key_plan::{Finding, Margin, Role, Turn, calendar, findings, lag_margin, lead_margin};
 use key_table::Tables;
-use plan_texts::{push_missing, push_pair_line};
+use plan_texts::{push_missing, push_pair_line, push_times};
 use std::alloc::{AllocError, Global};
 
 #[tactic(auto, unfolding(book_scope_plan::specs::PlanTexts::margin_text))]
@@ -78,7 +82,10 @@ fn push_judgement(
             let lag = lag_margin(tables, &facing.pair, facing.plan.lead);
             push_aligned(out, lead, lag)
         }
-        [_, ..] => push_findings(out, facing, findings),
+        [_, ..] => {
+            push_findings(out, facing, findings)?;
+            push_reconfiguring(out, facing, findings)
+        }
     }
 }
 
@@ -94,7 +101,47 @@ pub(crate) fn findings_by(
     findings(alloc, tables, pair, plan.lead, plan.lag, plan.from, plan.to)
 }
 
+/// Whether a row is sent with from now on.
+fn begins_sending(turn: &Turn) -> bool
+    ensures { result ≡ begins_sending turn.now }
+{
+    match turn.role {
+        Role::SentWith => turn.begins,
+        Role::Acceptable => false,
+        Role::AskedFor => false,
+        Role::Sendable => false,
+    }
+}
+
+/// Whether some end begins to send with another row.
+pub(crate) fn changes_key(turns: &[Turn]) -> bool
+    ensures { result ≡ list_any begins_sending turns.now }
+{
+    turns.iter().any(|turn| begins_sending(turn))
+}
+
+/// The line of a plan in which no key changes.
+#[tactic(auto, unfolding(book_scope_plan::specs::PlanTexts::unchanged_line))]
+fn push_unchanged(out: &mut Vec<u8>, plan: &Plan) -> Result<(), AllocError>
+    ensures { OnOk result (out.new.items ≡ out.old.items ++ unchanged_line plan.now) }
+{
+    out.extend_from_slice(b"  WRONG no key changes from ")?;
+    push_times(out, plan.from, plan.to)?;
+    out.extend_from_slice(b": neither end begins to send with another row\n")
+}
+
+fn push_unchanged_if(out: &mut Vec<u8>, holds: bool, plan: &Plan) -> Result<(), AllocError>
+    ensures { OnOk result (out.new.items ≡ out.old.items ++ text_if holds (unchanged_line plan.now)) }
+{
+    if holds {
+        push_unchanged(out, plan)
+    } else {
+        Ok(())
+    }
+}
+
 /// What is said of a connection whose ends have tables; whether there is no finding.
+#[tactic(auto, unfolding(book_scope_plan::specs::PlanTexts::changes_key))]
 fn push_both(
     alloc: Global,
     out: &mut Vec<u8>,
@@ -110,7 +157,9 @@ fn push_both(
     push_calendar(alloc, out, ends, turns.as_slice())?;
     let findings = findings_by(alloc, tables, &ends.pair, plan)?;
     let facing = Facing::new(keys, ends, plan);
+    push_unchanged_if(out, !changes_key(turns.as_slice()), plan)?;
     push_judgement(out, &facing, tables, findings.as_slice())?;
+    push_notes(out, &facing)?;
     Ok(has_none(findings.as_slice()))
 }
 

@@ -1,19 +1,18 @@
 //! In which columns rows of the other end differ from one that accepts what a row sends.
-ghost use Rattle.std.specs.Prelude.{◌≡◌, ◌==◌, ◌++◌, ◌≤◌, IfOk, OnOk, decimal, option_map};
+ghost use Rattle.std.specs.Prelude.{◌≡◌, ◌==◌, ◌&&◌, ◌++◌, ◌≤◌, not, OnOk, option_map};
 ghost use Rattle.toml.specs.View.{table_view};
-ghost use Rattle.book_base.specs.Algorithms.{name_of};
 ghost use Rattle.book_plans.specs.Differences.{differences};
-ghost use Rattle.book_scope_plan.specs.FindingTexts.{algorithms_text, connection_words, difference_count, difference_head, difference_lines, direction_words, fewest, ids_text, key_column_lines, key_words, nearest_lines, one_if, options_words, row_name, text_if, use_column_lines};
+ghost use Rattle.book_scope_plan.specs.DifferenceTexts.{algorithms_text, are_exchanged, connection_lines, difference_head, difference_lines, direction_text, has_peer, has_same_ids, ids_text, key_column_lines, key_text, line_if, nearest_lines, options_words, peers_text, port_line, port_text, use_column_lines};
+ghost use Rattle.book_scope_plan.specs.FindingTexts.{difference_count, fewest, one_if, row_name, text_if};
 ghost use Rattle.scope_plan.specs.Facings.{facing_of};
 
+use crate::columns::{push_algorithms, push_direction, push_ids, push_key, push_peers, push_port};
 use crate::facing::Facing;
-use ao_base::push_decimal;
-use book_base::Pair;
+use book_base::{Address, Pair};
 use key_plan::{Differences, differences};
-use key_table::Row;
+use key_table::{Direction, Row, has_peer};
 use plan_texts::row_name;
-use std::alloc::{AllocError, Global};
-use toml::Table;
+use std::alloc::AllocError;
 
 fn one_if(holds: bool) -> u8
     ensures value { result ≡ one_if holds }
@@ -58,70 +57,37 @@ fn push_head(out: &mut Vec<u8>, name: &[u8]) -> Result<(), AllocError>
     Ok(())
 }
 
-pub(crate) fn push_sent(out: &mut Vec<u8>, row: &Row) -> Result<(), AllocError>
-    ensures { OnOk result (out.new.items ≡ out.old.items ++ decimal row.now.send_id) }
-{
-    push_decimal(out, u64::from(row.send_id()))
-}
-
-fn push_received(out: &mut Vec<u8>, row: &Row) -> Result<(), AllocError>
-    ensures { OnOk result (out.new.items ≡ out.old.items ++ decimal row.now.recv_id) }
-{
-    push_decimal(out, u64::from(row.recv_id()))
-}
-
-fn push_ids(out: &mut Vec<u8>, row: &Row, other: &Row) -> Result<(), AllocError>
-    ensures { OnOk result (out.new.items ≡ out.old.items ++ ids_text row.now other.now) }
-{
-    out.extend_from_slice(b"KeyID: sent ")?;
-    push_sent(out, row)?;
-    out.extend_from_slice(b", received ")?;
-    push_received(out, other)?;
-    out.extend_from_slice(b"\n")?;
-    Ok(())
-}
-
-fn push_algorithm(out: &mut Vec<u8>, row: &Row) -> Result<(), AllocError>
-    ensures { OnOk result (out.new.items ≡ out.old.items ++ name_of row.now.algorithm) }
-{
-    out.extend_from_slice(row.algorithm().name())
-}
-
-fn push_algorithms(out: &mut Vec<u8>, row: &Row, other: &Row) -> Result<(), AllocError>
-    ensures { OnOk result (out.new.items ≡ out.old.items ++ algorithms_text row.now other.now) }
-{
-    out.extend_from_slice(b"AlgID: ")?;
-    push_algorithm(out, row)?;
-    out.extend_from_slice(b" and ")?;
-    push_algorithm(out, other)?;
-    out.extend_from_slice(b"\n")?;
-    Ok(())
-}
-
-fn push_if(out: &mut Vec<u8>, holds: bool, name: &[u8], words: &[u8]) -> Result<(), AllocError>
-    ensures { OnOk result (out.new.items ≡ out.old.items ++ text_if holds (difference_head name.now ++ words.now)) }
-{
-    if !holds {
-        return Ok(());
-    }
-    push_head(out, name)?;
-    out.extend_from_slice(words)
-}
-
 fn push_ids_if(
     out: &mut Vec<u8>,
     holds: bool,
     name: &[u8],
     row: &Row,
     other: &Row,
+    exchanged: bool,
 ) -> Result<(), AllocError>
-    ensures { OnOk result (out.new.items ≡ out.old.items ++ text_if holds (difference_head name.now ++ ids_text row.now other.now)) }
+    ensures { OnOk result (out.new.items ≡ out.old.items ++ line_if holds name.now (ids_text row.now other.now exchanged)) }
 {
     if !holds {
         return Ok(());
     }
     push_head(out, name)?;
-    push_ids(out, row, other)
+    push_ids(out, row, other, exchanged)
+}
+
+fn push_key_if(
+    out: &mut Vec<u8>,
+    holds: bool,
+    name: &[u8],
+    one: &[u8],
+    other: &[u8],
+) -> Result<(), AllocError>
+    ensures { OnOk result (out.new.items ≡ out.old.items ++ line_if holds name.now (key_text one.now other.now)) }
+{
+    if !holds {
+        return Ok(());
+    }
+    push_head(out, name)?;
+    push_key(out, one, other)
 }
 
 fn push_algorithms_if(
@@ -131,7 +97,7 @@ fn push_algorithms_if(
     row: &Row,
     other: &Row,
 ) -> Result<(), AllocError>
-    ensures { OnOk result (out.new.items ≡ out.old.items ++ text_if holds (difference_head name.now ++ algorithms_text row.now other.now)) }
+    ensures { OnOk result (out.new.items ≡ out.old.items ++ line_if holds name.now (algorithms_text row.now other.now)) }
 {
     if !holds {
         return Ok(());
@@ -140,40 +106,107 @@ fn push_algorithms_if(
     push_algorithms(out, row, other)
 }
 
-/// That the keys differ.
-#[tactic(auto, unfolding(book_scope_plan::specs::FindingTexts::key_words))]
-fn key_words() -> &'static [u8]
-    ensures { result.now ≡ key_words }
+/// That one of two rows leaves the TCP options out of the MAC, where one does.
+#[tactic(auto, unfolding(book_scope_plan::specs::DifferenceTexts::options_words))]
+fn push_options_if(out: &mut Vec<u8>, holds: bool, name: &[u8]) -> Result<(), AllocError>
+    ensures { OnOk result (out.new.items ≡ out.old.items ++ line_if holds name.now options_words) }
 {
-    b"Key: the two keys aren't equal\n"
+    if !holds {
+        return Ok(());
+    }
+    push_head(out, name)?;
+    out.extend_from_slice(b"ProtocolSpecificInfo: one alone covers the TCP options\n")
 }
 
-/// That one of two rows leaves the TCP options out of the MAC.
-#[tactic(auto, unfolding(book_scope_plan::specs::FindingTexts::options_words))]
-fn options_words() -> &'static [u8]
-    ensures { result.now ≡ options_words }
+fn push_direction_if(
+    out: &mut Vec<u8>,
+    holds: bool,
+    name: &[u8],
+    direction: Direction,
+) -> Result<(), AllocError>
+    ensures { OnOk result (out.new.items ≡ out.old.items ++ line_if holds name.now (direction_text direction)) }
 {
-    b"ProtocolSpecificInfo: one alone covers the TCP options\n"
+    if !holds {
+        return Ok(());
+    }
+    push_head(out, name)?;
+    push_direction(out, direction)
 }
 
-/// That a row isn't for what comes in.
-#[tactic(auto, unfolding(book_scope_plan::specs::FindingTexts::direction_words))]
-fn direction_words() -> &'static [u8]
-    ensures { result.now ≡ direction_words }
+fn push_peers_if(
+    out: &mut Vec<u8>,
+    holds: bool,
+    name: &[u8],
+    address: &Address,
+) -> Result<(), AllocError>
+    ensures { OnOk result (out.new.items ≡ out.old.items ++ line_if holds name.now (peers_text address.now)) }
 {
-    b"Direction: it isn't for what comes in\n"
+    if !holds {
+        return Ok(());
+    }
+    push_head(out, name)?;
+    push_peers(out, address)
 }
 
-/// That a row isn't for the connection.
-#[tactic(auto, unfolding(book_scope_plan::specs::FindingTexts::connection_words))]
-fn connection_words() -> &'static [u8]
-    ensures { result.now ≡ connection_words }
+fn push_port_if(
+    out: &mut Vec<u8>,
+    name: &[u8],
+    column: &[u8],
+    port: Option<u16>,
+    connected: u16,
+) -> Result<(), AllocError>
+    ensures { OnOk result (out.new.items ≡ out.old.items ++ port_line name.now column.now port connected) }
 {
-    b"Peers, LocalPort or PeerPort: it isn't for this connection\n"
+    match port {
+        Some(one) => {
+            if one == connected {
+                return Ok(());
+            }
+            push_head(out, name)?;
+            push_port(out, column, one, connected)
+        }
+        None => Ok(()),
+    }
+}
+
+fn has_address(other: &Row, address: &Address) -> bool
+    ensures { result ≡ has_peer other.now address.now }
+{
+    has_peer(other.peers(), address)
+}
+
+/// The lines of the columns by which a row isn't for the connection.
+#[tactic(auto, unfolding(book_scope_plan::specs::DifferenceTexts::connection_lines))]
+fn push_connection_lines(
+    out: &mut Vec<u8>,
+    name: &[u8],
+    pair: &Pair,
+    other: &Row,
+) -> Result<(), AllocError>
+    ensures { OnOk result (out.new.items ≡ out.old.items ++ connection_lines name.now pair.now other.now) }
+{
+    let address = &pair.local.address;
+    push_peers_if(out, !has_address(other, address), name, address)?;
+    let (local, peer) = (other.local_port(), other.peer_port());
+    push_port_if(out, name, b"LocalPort", local, pair.remote.port)?;
+    push_port_if(out, name, b"PeerPort", peer, pair.local.port)
+}
+
+fn has_same_ids(row: &Row, other: &Row) -> bool
+    ensures { result ≡ has_same_ids row.now other.now }
+{
+    other.recv_id() == row.recv_id() && other.send_id() == row.send_id()
+}
+
+/// Whether the KeyIDs alone differ, and would not if they were exchanged at one end.
+fn are_exchanged(d: &Differences, row: &Row, other: &Row) -> bool
+    ensures { result ≡ are_exchanged d.now row.now other.now }
+{
+    difference_count(d) == 1 && has_same_ids(row, other)
 }
 
 /// The lines of the columns that make up the key.
-#[tactic(auto, unfolding(book_scope_plan::specs::FindingTexts::key_column_lines))]
+#[tactic(auto, unfolding(book_scope_plan::specs::DifferenceTexts::key_column_lines))]
 fn push_key_lines(
     out: &mut Vec<u8>,
     name: &[u8],
@@ -183,34 +216,48 @@ fn push_key_lines(
 ) -> Result<(), AllocError>
     ensures { OnOk result (out.new.items ≡ out.old.items ++ key_column_lines name.now row.now other.now d.now) }
 {
-    push_ids_if(out, d.key_id, name, row, other)?;
-    push_if(out, d.master, name, key_words())?;
+    push_ids_if(
+        out,
+        d.key_id,
+        name,
+        row,
+        other,
+        are_exchanged(d, row, other),
+    )?;
+    push_key_if(out, d.master, name, row.master(), other.master())?;
     push_algorithms_if(out, d.algorithm, name, row, other)
 }
 
 /// The lines of the columns that say what for.
-#[tactic(auto, unfolding(book_scope_plan::specs::FindingTexts::use_column_lines))]
-fn push_use_lines(out: &mut Vec<u8>, name: &[u8], d: &Differences) -> Result<(), AllocError>
-    ensures { OnOk result (out.new.items ≡ out.old.items ++ use_column_lines name.now d.now) }
+#[tactic(auto, unfolding(book_scope_plan::specs::DifferenceTexts::use_column_lines))]
+fn push_use_lines(
+    out: &mut Vec<u8>,
+    name: &[u8],
+    pair: &Pair,
+    other: &Row,
+    d: &Differences,
+) -> Result<(), AllocError>
+    ensures { OnOk result (out.new.items ≡ out.old.items ++ use_column_lines name.now pair.now other.now d.now) }
 {
-    push_if(out, d.options, name, options_words())?;
-    push_if(out, d.direction, name, direction_words())?;
-    push_if(out, d.connection, name, connection_words())
+    push_options_if(out, d.options, name)?;
+    push_direction_if(out, d.direction, name, other.direction())?;
+    push_connection_lines(out, name, pair, other)
 }
 
 /// The lines of the columns in which a row of the other end differs.
-#[tactic(auto, unfolding(book_scope_plan::specs::FindingTexts::difference_lines))]
+#[tactic(auto, unfolding(book_scope_plan::specs::DifferenceTexts::difference_lines))]
 fn push_differences(
     out: &mut Vec<u8>,
     name: &[u8],
+    pair: &Pair,
     row: &Row,
     other: &Row,
     d: &Differences,
 ) -> Result<(), AllocError>
-    ensures { OnOk result (out.new.items ≡ out.old.items ++ difference_lines name.now row.now other.now d.now) }
+    ensures { OnOk result (out.new.items ≡ out.old.items ++ difference_lines name.now pair.now row.now other.now d.now) }
 {
     push_key_lines(out, name, row, other, d)?;
-    push_use_lines(out, name, d)
+    push_use_lines(out, name, pair, other, d)
 }
 
 /// The lines of a row of this number, where it differs in so many columns.
@@ -222,17 +269,13 @@ fn push_near(
     number: u8,
     other: &Row,
 ) -> Result<(), AllocError>
-    ensures { OnOk result (out.new.items ≡ out.old.items ++ text_if (difference_count (differences facing.now.pair row.now other.now) == count) (difference_lines (row_name (table_view facing.now.document.now) facing.now.other.now.name number) row.now other.now (differences facing.now.pair row.now other.now))) }
+    ensures { OnOk result (out.new.items ≡ out.old.items ++ text_if (difference_count (differences facing.now.pair row.now other.now) == count) (difference_lines (row_name (table_view facing.now.document.now) facing.now.other.now.name number) facing.now.pair row.now other.now (differences facing.now.pair row.now other.now))) }
 {
     let d = differences(&facing.pair, row, other);
     if difference_count(&d) == count {
-        let name = row_name(
-            *out.allocator(),
-            facing.document,
-            facing.other.name(),
-            number,
-        )?;
-        push_differences(out, name.as_slice(), row, other, &d)
+        let alloc = *out.allocator();
+        let name = row_name(alloc, facing.document, facing.other.name(), number)?;
+        push_differences(out, name.as_slice(), &facing.pair, row, other, &d)
     } else {
         Ok(())
     }

@@ -1,13 +1,15 @@
 //! What is said of each finding.
 ghost use Rattle.std.specs.Prelude.{◌≡◌, ◌++◌, OnOk, flat_map};
 ghost use Rattle.book_scope_plan.specs.CalendarTexts.{row_numbered};
-ghost use Rattle.book_scope_plan.specs.FindingTexts.{refused_text, sent_id_text, short_words, unmet_line};
+ghost use Rattle.book_scope_plan.specs.DifferenceTexts.{refused_text};
+ghost use Rattle.book_scope_plan.specs.FindingTexts.{sent_id_text, short_words, unmet_line};
 ghost use Rattle.book_scope_plan.specs.WayTexts.{finding_text, short_text};
 ghost use Rattle.scope_plan.specs.Facings.{facing_of};
 
-use crate::differences::{fewest, push_nearest, push_sent};
+use crate::columns::push_sent;
 use crate::facing::Facing;
 use crate::gap::push_gap;
+use crate::refused::push_reasons;
 use crate::short::{SentRow, push_short};
 use book_scope_plan::GapSeconds;
 use key_plan::Finding;
@@ -50,8 +52,7 @@ fn push_refused(out: &mut Vec<u8>, facing: &Facing, number: u8) -> Result<(), Al
     match row_numbered(facing.node, number) {
         Some(row) => {
             push_unmet(out, facing, number, row, b" takes it\n")?;
-            let count = fewest(&facing.pair, row, facing.other.entries());
-            push_nearest(out, facing, row, count)
+            push_reasons(out, facing, row)
         }
         None => Ok(()),
     }

@@ -1,16 +1,19 @@
 //! What is said of a gap of an end.
 ghost use Rattle.std.specs.Prelude.{◌≡◌, ◌++◌, false, IfOk, OnOk};
-ghost use Rattle.book_scope_plan.specs.FindingTexts.{seconds_between, seconds_text};
-ghost use Rattle.book_scope_plan.specs.WayTexts.{begins_after, ends_before, gap_line, gap_lines, gap_text, longer_line, longer_over, sending_over, told_longer};
+ghost use Rattle.toml.specs.View.{table_view};
+ghost use Rattle.book_scope_plan.specs.FindingTexts.{row_name, seconds_between, seconds_text, text_if};
+ghost use Rattle.book_scope_plan.specs.WayTexts.{begins_after, ends_before, gap_line, gap_lines, gap_text, is_kept_from, kept_line, kept_lines, longer_line, longer_over, sending_over, told_longer};
 ghost use Rattle.scope_plan.specs.Facings.{facing_of};
 
+use crate::columns::push_direction_name;
 use crate::facing::Facing;
 use crate::ways::{push_if, push_sending_line};
 use ao_base::push_decimal;
+use book_base::Pair;
 use book_cmd_keys::Plan;
 use book_scope_plan::GapSeconds;
-use key_table::{Lifetime, Row};
-use plan_texts::push_times;
+use key_table::{Direction, Lifetime, Row};
+use plan_texts::{push_times, row_name};
 use std::alloc::AllocError;
 
 /// The seconds from one to another, both included.
@@ -124,6 +127,59 @@ fn push_beside(out: &mut Vec<u8>, facing: &Facing, gap: GapSeconds) -> Result<()
     push_if(out, !told, b"    no row beside it can send over it\n")
 }
 
+/// Whether for the connection a row could send in some second of a gap, but for its Direction.
+fn is_kept_from(pair: &Pair, gap: GapSeconds, row: &Row) -> bool
+    ensures { result ≡ is_kept_from pair.now gap row.now }
+{
+    let sending = row.sending();
+    row.matches(pair)
+        && (!row.direction().sends() && sending.first.max(gap.first) <= sending.last.min(gap.last))
+}
+
+/// That the Direction of a row keeps it from sending.
+fn push_kept_line(out: &mut Vec<u8>, name: &[u8], direction: Direction) -> Result<(), AllocError>
+    ensures { OnOk result (out.new.items ≡ out.old.items ++ kept_line name.now direction) }
+{
+    out.extend_from_slice(b"    ")?;
+    out.extend_from_slice(name)?;
+    out.extend_from_slice(b" isn't for sending: its Direction is ")?;
+    push_direction_name(out, direction)?;
+    out.extend_from_slice(b"\n")?;
+    Ok(())
+}
+
+/// The line of a row of this number that its Direction alone keeps from sending in the gap.
+fn push_kept_row(
+    out: &mut Vec<u8>,
+    facing: &Facing,
+    gap: GapSeconds,
+    number: u8,
+    row: &Row,
+) -> Result<(), AllocError>
+    ensures { OnOk result (out.new.items ≡ out.old.items ++ text_if (is_kept_from facing.now.pair gap row.now) (kept_line (row_name (table_view facing.now.document.now) facing.now.node.now.name number) row.now.direction)) }
+{
+    if is_kept_from(&facing.pair, gap, row) {
+        let alloc = *out.allocator();
+        let name = row_name(alloc, facing.document, facing.node.name(), number)?;
+        push_kept_line(out, name.as_slice(), row.direction())
+    } else {
+        Ok(())
+    }
+}
+
+/// The lines of the rows that their Direction alone keeps from sending in the gap.
+fn push_kept(out: &mut Vec<u8>, facing: &Facing, gap: GapSeconds) -> Result<(), AllocError>
+    ensures { OnOk result (out.new.items ≡ out.old.items ++ kept_lines (facing_of facing.now) gap 1 facing.now.node.now.rows) }
+{
+    // It tells that a table has at most 64 rows, so that each number fits.
+    let _count = facing.node.rows();
+    let rows = facing.node.entries();
+    for (i, row) in rows.iter().enumerate() {
+        push_kept_row(out, facing, gap, (i + 1) as u8, row)?;
+    }
+    Ok(())
+}
+
 /// What is said of a gap.
 pub(crate) fn push_gap(
     out: &mut Vec<u8>,
@@ -133,5 +189,6 @@ pub(crate) fn push_gap(
     ensures { OnOk result (out.new.items ≡ out.old.items ++ gap_text (facing_of facing.now) gap) }
 {
     push_gap_line(out, facing.node.name(), gap)?;
+    push_kept(out, facing, gap)?;
     push_beside(out, facing, gap)
 }

@@ -3,6 +3,7 @@
 #![tactic(auto)]
 
 mod calendar;
+mod columns;
 mod connection;
 mod connections;
 mod differences;
@@ -12,8 +13,12 @@ mod findings;
 mod gap;
 mod key_file;
 mod lifetimes;
+mod notes;
 mod planned;
 mod plans;
+mod reconfiguring;
+mod refused;
+mod shift;
 mod short;
 mod told;
 mod ways;

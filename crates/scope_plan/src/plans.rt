@@ -1,16 +1,18 @@
 //! What is said of each connection of an input.
-ghost use Rattle.std.specs.Prelude.{◌≡◌, ◌<◌, ◌≤◌, ◌↔◌, IsErrOf, [], false, length};
+ghost use Rattle.std.specs.Prelude.{◌≡◌, ◌&&◌, IfOk, ◌<◌, ◌≤◌, ◌↔◌, IsErrOf, [], false, length};
 ghost use Rattle.book_base.specs.Lines.{lines_of};
 ghost use Rattle.book_lines.specs.Lines.{most_lines};
 ghost use Rattle.book_lines.specs.Said.{at_number, said_by, said_in};
 ghost use Rattle.text_lines.specs.Readings.{Answers};
 ghost use Rattle.book_scope_plan.specs.Connections.{plan_pair_of};
+ghost use Rattle.book_scope_plan.specs.PlanTexts.{changes_key};
 ghost use Rattle.book_answer.specs.Answers.{if_read};
 ghost use Rattle.command_report.specs.Reports.{Reports};
 ghost use Rattle.scope_plan.specs.KeyFiles.{key_file_of};
 ghost use Rattle.scope_plan.specs.Plannings.{planned_answer, planned_from, plannings};
 
 use crate::connection::read_connection;
+use crate::connections::changes_key;
 use crate::drawn::{framed, push_connection_as};
 use crate::key_file::KeyFile;
 use crate::planned::Planned;
@@ -19,7 +21,8 @@ use book_cmd_keys::Plan;
 use book_draw_plan::PlanForm;
 use book_lines::TextFault;
 use command_report::{Report, Stop};
-use std::alloc::Global;
+use key_plan::calendar;
+use std::alloc::{AllocError, Global};
 use text_lines::{Saying, SayingLines, count_lines};
 
 fn connection_in(mut line: Saying) -> Result<Pair, TextFault>
@@ -30,6 +33,24 @@ fn connection_in(mut line: Saying) -> Result<Pair, TextFault>
         Ok(pair) => Ok(pair),
         Err(kind) => Err(TextFault::Line(number, kind)),
     }
+}
+
+/// Whether nothing is wrong with the plan of a connection: it is good, and a key changes.
+#[tactic(auto, unfolding(book_scope_plan::specs::PlanTexts::changes_key))]
+fn is_right(
+    alloc: Global,
+    keys: &KeyFile,
+    plan: &Plan,
+    pair: &Pair,
+    is_good: bool,
+) -> Result<bool, AllocError>
+    ensures { IfOk result (λ right. right ≡ (is_good && changes_key keys.now.tables plan.now pair.now)) }
+{
+    if !is_good {
+        return Ok(false);
+    }
+    let turns = calendar(alloc, &keys.tables, pair, plan.from, plan.to)?;
+    Ok(changes_key(turns.as_slice()))
 }
 
 /// What is said of each connection of the lines that are left.
@@ -50,7 +71,8 @@ fn plan_lines(
         let pair = connection_in(line)?;
         let written = push_connection_as(alloc, form, &mut out, count, keys, plan, &pair)?;
         count = written.next;
-        has_wrong |= !written.is_good;
+        let right = is_right(alloc, keys, plan, &pair, written.is_good)?;
+        has_wrong |= !right;
     }
     Ok(Planned {
         text: Bytes::from_vec(out),
@@ -83,10 +105,12 @@ fn plan_input(
 /// - each finding of `key_plan::findings` for the plan's lead and lag, in order, with the columns in which
 ///   the nearest rows differ, or what a lifetime is to be set to, or what stands in the way of that; behind
 ///   the number of a row stands what the operator calls it, its AdminKeyName;
-/// - or, where there is none, `aligned` with the greatest lead and lag for which it stays so.
+/// - or, where there is none, `aligned` with the greatest lead and lag for which it stays so;
+/// - in front of these, where in that time no end begins to send with another row, that no key changes;
+/// - behind them notes on the rows, `notes_text` of the book.
 ///
-/// Of a connection with an address that no node has it is only said so. A finding or such an address is
-/// amiss. In the form `PlanForm::Bars` the line `connection ..` is followed by the bars of
+/// Of a connection with an address that no node has it is only said so. A finding, such an address or that no
+/// key changes is amiss. In the form `PlanForm::Bars` the line `connection ..` is followed by the bars of
 /// `draw_plan::push_bars` in place of the calendar and the findings. In the form `PlanForm::Picture` it is one
 /// picture in SVG, `picture_text` of the book, of the same lines, connections one below another: the bars by
 /// seconds in place of slices, and a mark for each slice under which the text has one.

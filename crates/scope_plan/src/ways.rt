@@ -87,7 +87,9 @@ fn push_obstacle(out: &mut Vec<u8>, obstacle: Obstacle) -> Result<(), AllocError
 {
     match obstacle {
         Obstacle::Empty => out.extend_from_slice(b"it would end before it begins"),
-        Obstacle::Endless => out.extend_from_slice(b"it would never end"),
+        Obstacle::Endless => {
+            out.extend_from_slice(b"that is the last time of all, so it would never end")
+        }
         Obstacle::Overlap(number) => push_overlap(out, number),
         Obstacle::Refused => {
             out.extend_from_slice(b"the other end wouldn't take it for long enough")

@@ -1,5 +1,5 @@
 use Rattle.std.specs.Prelude.{codes}
-use Rattle.book_scope_plan.specs.FindingTexts.{difference_head}
+use Rattle.book_scope_plan.specs.DifferenceTexts.{difference_head}
 use Rattle.plan_texts.proofs.Parts.{three}
 use Rattle.scope_plan.proofs.differences.push_head.Goals as goal
 

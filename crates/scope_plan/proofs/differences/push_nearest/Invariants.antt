@@ -1,5 +1,5 @@
 use Rattle.std.proofs.Common.{◌≡◌, ◌++◌, ◌+◌, drop}
-use Rattle.book_scope_plan.specs.FindingTexts.{nearest_lines}
+use Rattle.book_scope_plan.specs.DifferenceTexts.{nearest_lines}
 use Rattle.scope_plan.specs.Facings.{facing_of}
 use Rattle.scope_plan.proofs.differences.push_nearest.Given as goal
 

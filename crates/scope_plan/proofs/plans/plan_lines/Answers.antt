@@ -1,7 +1,8 @@
-use Rattle.std.proofs.Common.{◌≡◌, ℕ, ◌+◌, ◌∙◌, ◌||◌, not, [], false, length, ap, arith}
+use Rattle.std.proofs.Common.{◌≡◌, ℕ, ◌+◌, ◌∙◌, ◌||◌, ◌&&◌, not, [], false, length, ap, arith}
 use Rattle.std.proofs.lemmas.Result.{err_from_is_err_and}
 use Rattle.book_lines.specs.Said.{said_by}
 use Rattle.book_scope_plan.specs.Connections.{plan_pair_of}
+use Rattle.book_scope_plan.specs.PlanTexts.{changes_key}
 use Rattle.scope_plan.specs.KeyFiles.{key_file_of}
 use Rattle.scope_plan.specs.Plannings.{planned_from}
 use Rattle.scope_plan.proofs.PlannedLaws.{line_planned, line_refused, lines_planned}
@@ -23,7 +24,8 @@ loop-line-preserved c =
           (record { number = c.in-Some.line.number; words = c.in-Some.line.words }) c.next.new.self c.loop-line.lines
           (planned_from c.args.form (key_file_of c.args.keys.now) c.args.plan.now [] 0 false (said_by plan_pair_of c.args.lines)) c.in-Some.ensures
           c.loop-line.invariant.1 c.in_ok-pair.pair c.push_connection_as.new.out.items c.in_ok-written.written.next _ c.in_ok-pair.ensures c.in_ok-written.ensures.text
-          c.in_ok-written.ensures.next (ap (λ b. c.loop-line.has_wrong || not b) c.in_ok-written.ensures.good),
+          c.in_ok-written.ensures.next (ap (λ b. c.loop-line.has_wrong || not b)
+          (c.in_ok-right.ensures ∙ ap (λ g. g && changes_key c.args.keys.now.tables c.args.plan.now c.in_ok-pair.pair) c.in_ok-written.ensures.good)),
     )
 
 pub returns : goal.returns

@@ -1,8 +1,8 @@
 use Rattle.std.specs.Prelude.{codes}
 use Rattle.book_base.specs.Algorithms.{name_of}
-use Rattle.book_scope_plan.specs.FindingTexts.{algorithms_text}
+use Rattle.book_scope_plan.specs.DifferenceTexts.{algorithms_text}
 use Rattle.plan_texts.proofs.Parts.{five}
-use Rattle.scope_plan.proofs.differences.push_algorithms.Goals as goal
+use Rattle.scope_plan.proofs.columns.push_algorithms.Goals as goal
 
 pub returns : goal.returns
 unfolding algorithms_text
