@@ -17,15 +17,18 @@ use Rattle.book_sessions.specs.AsSent.{mended}
 use Rattle.book_sessions.specs.declared.outcome.PassedOver.{PassedOver}
 use Rattle.book_sessions.specs.declared.outcome.PassedOver.TheVariants as passed
 use Rattle.book_sessions.specs.declared.outcome.SegmentOutcome.{SegmentOutcome}
+use Rattle.book_sessions.specs.declared.outcome.SegmentOutcome.TheVariants.{CutOff}
+use Rattle.book_sessions.specs.CutOff.{cut_segment}
 use Rattle.book_sessions.specs.declared.uses.KeyUse.{KeyUse}
 use Rattle.book_sessions.specs.declared.uses.SeenSegment.{SeenSegment}
 use Rattle.book_sessions.specs.Laps.{Judging}
-use Rattle.book_sessions.specs.Listening.{Listened, Listening, listen, listening_behind}
-use Rattle.book_sessions.specs.Sessions.{SessionTable, and_counted, and_segment, and_unset, captured_of_packet, counted_by, no_sessions, seen_as, seen_by, session_of, sessions_from, sessions_of, signs_of, stored_by, with_use}
+use Rattle.book_sessions.specs.Listening.{Listened, Listening, listen, listen_to, listening_behind}
+use Rattle.book_sessions.specs.Sessions.{SessionTable, and_counted, and_segment, and_unset, captured_of_packet, counted_by, no_sessions, seen_as, seen_by, seen_cut, seen_pass, seen_segment, session_of, sessions_from, sessions_of, signs_of, stored_by, with_use}
 use Rattle.book_sessions.specs.SessionTexts.{is_of_session}
 use Rattle.book_draw_session.specs.declared.rung.SessionEnds.{SessionEnds}
 use Rattle.book_draw_session.specs.declared.rung.SessionRung.{SessionRung}
-use Rattle.book_draw_session.specs.Rungs.{and_session, counted_in, drawn_by, ends_of, ends_of_use, is_between, rung_before, rung_heard, rung_said, rungs_between, session_rungs_from, rungs_in, rungs_of_session, same_ends, seen_of, session_at, sessions_after, sessions_drawn}
+use Rattle.book_draw_session.specs.Rungs.{and_session, counted_in, drawn_by, ends_of, ends_of_use, is_between, rung_before, rung_cut, rung_heard, rung_said, session_rung, rungs_between, session_rungs_from, rungs_in, rungs_of_session, same_ends, seen_of, session_at, sessions_after, sessions_drawn}
+use Rattle.book_draw_session.proofs.Heard.{read_uncut}
 use Rattle.book_draw_session.proofs.Places.{any_place, known_more, known_still, like_ends, many_more, number_more, number_now, number_of, one_less, other_zero, place, place_more, place_of, session_more, zero_other}
 use Rattle.book_draw_session.proofs.Numbers.{Agree, IsOf, agree_more, agree_used, all_of, count_used, ends_found, ends_in, ends_used, number_in, number_used, seen_ends, session_number}
 
@@ -229,26 +232,40 @@ FitsLater known rs t more = Fits (sessions_after known more) t.sessions t.uses (
 abbrev Later : List SessionRung → (SessionTable → SessionTable) → Type 0
 Later others after = (k : List SessionEnds) (xs : List SessionRung) (u : SessionTable) → Fits k u.sessions u.uses xs → FitsLater k xs (after u) others
 
-said_fits : (s : Stored) (time : ℕ) (d : Segment) (l : Listened) (said : Result SegmentOutcome DatagramFault) (known : List SessionEnds) (rs : List SessionRung) (t : SessionTable) (others : List SessionRung) (after : SessionTable → SessionTable)
-    → s.time ≡ time / 1000000000 → Later others after → Fits known t.sessions t.uses rs
-    → FitsLater known rs (after (and_counted (seen_as s l (Read d) said) t)) (rung_said (rung_heard s.number time d l) said others)
-said_fits s time d l (Err why) known rs t others after at later fits = later known rs _ fits
-said_fits s time d l (Ok said) known rs t others after at later fits =
-    let r = rung_heard s.number time d l said in
-    let seen : seen_as s l (Read d) (Ok said) ≡ Ok (seen_of r) = rw at refl in
+-- a segment more
+one_fits : (r : SessionRung) (seen : SeenSegment) (known : List SessionEnds) (rs : List SessionRung) (t : SessionTable) (others : List SessionRung) (after : SessionTable → SessionTable)
+    → seen ≡ seen_of r → Later others after → Fits known t.sessions t.uses rs → FitsLater known rs (after (and_counted (Ok seen) t)) (r ∷ others)
+one_fits r seen known rs t others after is later fits =
     let more = later (and_session known r) (rs ++ r ∷ []) (and_counted (Ok (seen_of r)) t) (fits_more known t rs fits r) in
-    subst (λ (x : Result SeenSegment PassedOver). FitsLater known rs (after (and_counted x t)) (r ∷ others)) (sym seen) (rw (append_assoc rs (r ∷ []) others) at more)
+    subst (λ (x : SeenSegment). FitsLater known rs (after (and_counted (Ok x) t)) (r ∷ others)) (sym is) (rw (append_assoc rs (r ∷ []) others) at more)
 
-bad_fits : (s : Stored) (l : Listened) (fault : DatagramFault) (said : Result SegmentOutcome DatagramFault) (known : List SessionEnds) (rs : List SessionRung) (t : SessionTable) (others : List SessionRung) (after : SessionTable → SessionTable)
-    → Later others after → Fits known t.sessions t.uses rs → FitsLater known rs (after (and_counted (seen_as s l (Bad fault) said) t)) others
-bad_fits s l fault (Err why) known rs t others after later fits = later known rs _ fits
-bad_fits s l fault (Ok said) known rs t others after later fits = later known rs _ fits
-
-read_fits : (s : Stored) (time : ℕ) (l : Listened) (r : Reading) (known : List SessionEnds) (rs : List SessionRung) (t : SessionTable) (others : List SessionRung) (after : SessionTable → SessionTable)
+cut_fits : (s : Stored) (time : ℕ) (cut : Option Segment) (fault : DatagramFault) (known : List SessionEnds) (rs : List SessionRung) (t : SessionTable) (others : List SessionRung) (after : SessionTable → SessionTable)
     → s.time ≡ time / 1000000000 → Later others after → Fits known t.sessions t.uses rs
-    → FitsLater known rs (after (and_counted (seen_by s r l) t)) (rung_before s.number time l r others)
-read_fits s time l (Bad fault) known rs t others after at later fits = bad_fits s l fault l.outcome known rs t others after later fits
-read_fits s time l (Read d) known rs t others after at later fits = said_fits s time d l l.outcome known rs t others after at later fits
+    → FitsLater known rs (after (and_counted (seen_cut s cut fault) t)) (rung_cut s.number time cut others)
+cut_fits s time None fault known rs t others after at later fits = later known rs _ fits
+cut_fits s time (Some d) fault known rs t others after at later fits =
+    let r = session_rung s.number time d CutOff None in
+    let is : seen_segment s d CutOff None ≡ seen_of r = rw at refl in
+    one_fits r (seen_segment s d CutOff None) known rs t others after is later fits
+
+said_fits : (s : Stored) (time : ℕ) (d : Segment) (l : Listened) (said : Result SegmentOutcome DatagramFault) (known : List SessionEnds) (rs : List SessionRung) (t : SessionTable) (others : List SessionRung) (after : SessionTable → SessionTable)
+    → reading s.bytes ≡ Read d → s.time ≡ time / 1000000000 → Later others after → Fits known t.sessions t.uses rs
+    → FitsLater known rs (after (and_counted (seen_as s l (Read d) said) t)) (rung_said (rung_heard s.number time d l) said others)
+said_fits s time d l (Err why) known rs t others after read at later fits =
+    subst (λ (cut : Option Segment). FitsLater known rs (after (and_counted (seen_cut s cut why) t)) others) (sym (read_uncut s.bytes d read)) (later known rs _ fits)
+said_fits s time d l (Ok said) known rs t others after read at later fits =
+    let r = rung_heard s.number time d l said in
+    let seen = seen_segment s d said (option_map (seen_pass d l.listening.held) l.pass) in
+    let is : seen ≡ seen_of r = rw at refl in
+    one_fits r seen known rs t others after is later fits
+
+read_fits : (j : Judging) (m : Listening) (s : Stored) (time : ℕ) (r : Reading) (known : List SessionEnds) (rs : List SessionRung) (t : SessionTable) (others : List SessionRung) (after : SessionTable → SessionTable)
+    → reading s.bytes ≡ r → s.time ≡ time / 1000000000 → Later others after → Fits known t.sessions t.uses rs
+    → FitsLater known rs (after (and_counted (seen_by s r (listen j m s.time r)) t)) (rung_before s.number time (cut_segment s.bytes) (listen j m s.time r) r others)
+unfolding listen
+read_fits j m s time (Bad fault) known rs t others after read at later fits = cut_fits s time (cut_segment s.bytes) fault known rs t others after at later fits
+read_fits j m s time (Read d) known rs t others after read at later fits =
+    said_fits s time d (listen_to j m s.time d) (listen_to j m s.time d).outcome known rs t others after read at later fits
 
 module _ (j : Judging) where
   stored_fits : (time : Option ℕ) (number : ℕ) (found : Result Datagram Skipped) (ps : List CapturePacket)
@@ -260,7 +277,7 @@ module _ (j : Judging) where
   stored_fits (Some s) number (Ok d) ps later l known rs t fits =
       let h = listen j l (s / 1000000000) (reading (mended (judged_bytes d))) in
       let stored : Stored = record { number = number; time = s / 1000000000; bytes = mended (judged_bytes d) } in
-      read_fits stored s h (reading (mended (judged_bytes d))) known rs t (session_rungs_from j h.listening ps) (λ now. sessions_from j h.listening now ps) refl (λ k xs u. later h.listening k xs u) fits
+      read_fits j l stored s (reading (mended (judged_bytes d))) known rs t (session_rungs_from j h.listening ps) (λ now. sessions_from j h.listening now ps) refl refl (λ k xs u. later h.listening k xs u) fits
 
   from_fits : (ps : List CapturePacket) (l : Listening) (known : List SessionEnds) (rs : List SessionRung) (t : SessionTable) → Fits known t.sessions t.uses rs
       → FitsLater known rs (sessions_from j l t ps) (session_rungs_from j l ps)

@@ -53,6 +53,7 @@ rung_stroke outcome.NoNode = 126
 rung_stroke outcome.TooMany = 126
 rung_stroke outcome.Unconfirmed = 46
 rung_stroke (outcome.UnconfirmedRefused why) = 126
+rung_stroke outcome.CutOff = 126
 
 -- the words beside the end that a segment comes to: what is said of it (own)
 abbrev pub said_texts : SegmentOutcome → List (List ℕ)

@@ -15,6 +15,8 @@ use Rattle.book_cmd_check.specs.Captures.{Stored}
 use Rattle.book_cmd_check.specs.declared.given.GivenIsns.{GivenIsns}
 use Rattle.book_sessions.specs.declared.outcome.PassedOver.{PassedOver}
 use Rattle.book_sessions.specs.declared.outcome.SegmentOutcome.{SegmentOutcome}
+use Rattle.book_sessions.specs.declared.outcome.SegmentOutcome.TheVariants.{CutOff}
+use Rattle.book_sessions.specs.CutOff.{cut_segment}
 use Rattle.book_sessions.specs.declared.uses.KeyUse.{KeyUse}
 use Rattle.book_sessions.specs.declared.uses.SeenBits.{SeenBits}
 use Rattle.book_sessions.specs.declared.uses.SeenPass.{SeenPass}
@@ -57,11 +59,17 @@ abbrev pub rung_said : (SegmentOutcome → SessionRung) → Result SegmentOutcom
 rung_said draw (Err fault) others = others
 rung_said draw (Ok said) others = draw said ∷ others
 
--- the rung of what is read, where it is a segment, in front of others (own)
-abbrev pub rung_before : (packet time : ℕ) → Listened → Reading → List SessionRung →
-    List SessionRung
-rung_before packet time l (Bad fault) others = others
-rung_before packet time l (Read d) others =
+-- the rung of a segment that was cut off, if there is one, in front of others (own)
+abbrev pub rung_cut : (packet time : ℕ) → Option Segment → List SessionRung → List SessionRung
+rung_cut packet time None others = others
+rung_cut packet time (Some d) others = session_rung packet time d CutOff None ∷ others
+
+-- the rung of what is read, where it is a segment, or of the one that was cut off, in front of
+-- others (own)
+abbrev pub rung_before : (packet time : ℕ) → (cut : Option Segment) → Listened → Reading →
+    List SessionRung → List SessionRung
+rung_before packet time cut l (Bad fault) others = rung_cut packet time cut others
+rung_before packet time cut l (Read d) others =
     rung_said (rung_heard packet time d l) l.outcome others
 
 -- the rung of a packet seen at this time of which this is judged, in front of others behind what
@@ -70,7 +78,8 @@ abbrev pub drawn_by : Judging → Listening → (time : Option ℕ) → Result S
     (Listening → List SessionRung) → List SessionRung
 drawn_by j l time (Err why) others = others l
 drawn_by j l time (Ok s) others = let h = listen j l s.time (reading s.bytes) in
-    rung_before s.number (unwrap_or time 0) h (reading s.bytes) (others h.listening)
+    rung_before s.number (unwrap_or time 0) (cut_segment s.bytes) h (reading s.bytes)
+    (others h.listening)
 
 -- the rungs of packets, behind what is known (own)
 abbrev pub session_rungs_from : Judging → Listening → List CapturePacket → List SessionRung

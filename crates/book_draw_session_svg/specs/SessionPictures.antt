@@ -62,6 +62,7 @@ outcome_dashes outcome.NoNode = codes " stroke-dasharray=\"12 5\""
 outcome_dashes outcome.TooMany = codes " stroke-dasharray=\"12 5\""
 outcome_dashes outcome.Unconfirmed = codes " stroke-dasharray=\"2 4\""
 outcome_dashes (outcome.UnconfirmedRefused why) = codes " stroke-dasharray=\"12 5\""
+outcome_dashes outcome.CutOff = codes " stroke-dasharray=\"12 5\""
 
 -- a segment in its row, from 0 (own)
 pub record RungInRow : Type 0 where

@@ -16,11 +16,12 @@ use Rattle.book_sessions.specs.declared.uses.SeenSegment.{SeenSegment}
 use Rattle.book_sessions.specs.declared.uses.Signs.{Signs}
 use Rattle.book_sessions.specs.declared.uses.KeyUse.{KeyUse}
 use Rattle.book_sessions.specs.declared.uses.PassedCount.{PassedCount}
+use Rattle.book_sessions.specs.CutOff.{cut_segment}
 use Rattle.book_sessions.specs.Glimpses.{Opening, glimpsed, is_opened_anew, is_unknown, openings_after, told_anew}
 use Rattle.book_sessions.specs.Laps.{Judging, hear_over}
 use Rattle.book_sessions.specs.Listening.{Listened, Listening, outcome_of, unconfirmed_of, listen, listening_behind, said_of}
-use Rattle.book_sessions.specs.Sessions.{SessionTable, same_reason, seen_as, seen_by, same_outcome, is_use_of, session_of, used_again, with_use, signs_of, and_segment, with_passed, and_counted, and_unset, captured_of_packet, stored_of_packet, all_stored, counted_by, sessions_from, no_sessions, sessions_of}
-use Rattle.book_sessions.specs.Counts.{IsNoRefusal, IsVerified, IsOfNoNode, IsTooMany, as_checked, checked_by, told_times, if_outcome, counted, said_once, said_times, outcome_times, like_times, like_counted, is_like, use_as_checked, all_counted, all_passed, seen_before, segments_seen, segments_heard}
+use Rattle.book_sessions.specs.Sessions.{SessionTable, same_reason, seen_as, seen_by, seen_cut, same_outcome, is_use_of, session_of, used_again, with_use, signs_of, and_segment, with_passed, and_counted, and_unset, captured_of_packet, stored_of_packet, all_stored, counted_by, sessions_from, no_sessions, sessions_of}
+use Rattle.book_sessions.specs.Counts.{IsNoRefusal, IsVerified, IsOfNoNode, IsTooMany, as_checked, checked_by, cut_once, cut_times, told_times, if_outcome, counted, said_once, said_times, outcome_times, like_times, like_counted, is_like, use_as_checked, all_counted, all_passed, seen_before, segments_seen, segments_heard}
 use Rattle.book_sessions.proofs.Sums.{sum_of_uses, sum_of_segments, kinds_counted}
 use Rattle.book_sessions.proofs.Hearing.{without_laps, seen_as_checked, heard_as_checked, listened}
 use Rattle.book_sessions.proofs.Directions.{outcome_kind, checked_kind, way_kind, checked_way_kind}
@@ -98,30 +99,35 @@ said_by : (o : SegmentOutcome) (s : Stored) (l : Listened) (d : Segment) (said :
     outcome_times o (seen_before (seen_as s l (Read d) (Ok said)) ss) ≡ said_once o (Ok said) + outcome_times o ss
 said_by o s l d said ss = refl
 
+-- a segment that was cut off has another outcome
+cut_unsaid : (o : SegmentOutcome) (s : Stored) (cut : Option Segment) (fault : DatagramFault) (ss : List SeenSegment) → same_outcome o outcome.CutOff ≡ false → outcome_times o (seen_before (seen_cut s cut fault) ss) ≡ outcome_times o ss
+cut_unsaid o s None fault ss e = refl
+cut_unsaid o s (Some d) fault ss e = ap (λ (b : Bool). (if b then 1 else 0) + outcome_times o ss) e ∙ zero_first (outcome_times o ss)
+
 -- what is said of bytes that are no segment is no outcome
-said_at : (o : SegmentOutcome) (s : Stored) (l : Listened) (r : Reading) (said : Result SegmentOutcome DatagramFault) (ss : List SeenSegment) →
+said_at : (o : SegmentOutcome) (s : Stored) (l : Listened) (r : Reading) (said : Result SegmentOutcome DatagramFault) (ss : List SeenSegment) → same_outcome o outcome.CutOff ≡ false →
     ((fault : DatagramFault) → r ≡ Bad fault → (p : SegmentOutcome) → said ≡ Ok p → true ≡ false) → outcome_times o (seen_before (seen_as s l r said) ss) ≡ said_once o said + outcome_times o ss
-said_at o s l r (Err fault) ss never = sym (zero_first (outcome_times o ss))
-said_at o s l (Read d) (Ok said) ss never = said_by o s l d said ss
-said_at o s l (Bad fault) (Ok said) ss never = let impossible = never fault refl said refl in absurd (cc)
+said_at o s l r (Err fault) ss e never = cut_unsaid o s (cut_segment s.bytes) fault ss e ∙ sym (zero_first (outcome_times o ss))
+said_at o s l (Read d) (Ok said) ss e never = said_by o s l d said ss
+said_at o s l (Bad fault) (Ok said) ss e never = let impossible = never fault refl said refl in absurd (cc)
 
 -- bytes that are no segment have no outcome
 bad_unsaid : (tables : List Table) (held : List Connection) (openings : List Opening) (now : ℕ) (r : Reading) (fault : DatagramFault) → r ≡ Bad fault → (p : SegmentOutcome) → (checked_by tables held openings now r).outcome ≡ Ok p → true ≡ false
 bad_unsaid tables held openings now (Bad other) fault e p f = absurd (cc)
 bad_unsaid tables held openings now (Read d) fault e p f = absurd (cc)
 
-sayings_counted : (o : SegmentOutcome) (tables : List Table) (held : List Connection) (openings : List Opening) (stored : List Stored) →
+sayings_counted : (o : SegmentOutcome) (tables : List Table) (held : List Connection) (openings : List Opening) (stored : List Stored) → same_outcome o outcome.CutOff ≡ false →
     outcome_times o (segments_seen tables held openings stored) ≡ told_times o tables held openings stored
-sayings_counted o tables held openings [] = refl
-sayings_counted o tables held openings (s ∷ rest) =
+sayings_counted o tables held openings [] e = refl
+sayings_counted o tables held openings (s ∷ rest) e =
     let r = reading s.bytes in
     let h = checked_by tables held openings s.time r in
-    said_at o s h r h.outcome (segments_seen tables h.listening.held h.listening.openings rest) (λ fault is p told. bad_unsaid tables held openings s.time r fault is p told)
-    ∙ ap (λ (n : ℕ). said_once o h.outcome + n) (sayings_counted o tables h.listening.held h.listening.openings rest)
+    said_at o s h r h.outcome (segments_seen tables h.listening.held h.listening.openings rest) e (λ fault is p told. bad_unsaid tables held openings s.time r fault is p told)
+    ∙ ap (λ (n : ℕ). said_once o h.outcome + n) (sayings_counted o tables h.listening.held h.listening.openings rest e)
 
-pub verdicts_counted : (tables : List Table) (given : List GivenIsns) (packets : List CapturePacket) (o : SegmentOutcome) →
+pub verdicts_counted : (tables : List Table) (given : List GivenIsns) (packets : List CapturePacket) (o : SegmentOutcome) → same_outcome o outcome.CutOff ≡ false →
     counted o (map use_as_checked (sessions_of (without_laps tables) given packets).uses) ≡ told_times o tables (given_after [] given) [] (all_stored packets)
-verdicts_counted tables given packets o = outcomes_checked tables given packets o ∙ sayings_counted o tables (given_after [] given) [] (all_stored packets)
+verdicts_counted tables given packets o e = outcomes_checked tables given packets o ∙ sayings_counted o tables (given_after [] given) [] (all_stored packets) e
 
 -- ---- what isn't refused
 
@@ -133,6 +139,7 @@ verified_kept outcome.NoNode = refl
 verified_kept outcome.TooMany = refl
 verified_kept outcome.Unconfirmed = refl
 verified_kept (outcome.UnconfirmedRefused why) = refl
+verified_kept outcome.CutOff = refl
 
 no_node_kept : (x : SegmentOutcome) → same_outcome outcome.NoNode (as_checked x) ≡ same_outcome outcome.NoNode x
 no_node_kept outcome.Verified = refl
@@ -141,6 +148,7 @@ no_node_kept outcome.NoNode = refl
 no_node_kept outcome.TooMany = refl
 no_node_kept outcome.Unconfirmed = refl
 no_node_kept (outcome.UnconfirmedRefused why) = refl
+no_node_kept outcome.CutOff = refl
 
 too_many_kept : (x : SegmentOutcome) → same_outcome outcome.TooMany (as_checked x) ≡ same_outcome outcome.TooMany x
 too_many_kept outcome.Verified = refl
@@ -149,6 +157,7 @@ too_many_kept outcome.NoNode = refl
 too_many_kept outcome.TooMany = refl
 too_many_kept outcome.Unconfirmed = refl
 too_many_kept (outcome.UnconfirmedRefused why) = refl
+too_many_kept outcome.CutOff = refl
 
 kept : (o : SegmentOutcome) → IsNoRefusal o → (x : SegmentOutcome) → same_outcome o (as_checked x) ≡ same_outcome o x
 kept o (IsVerified e) x = rw e (verified_kept x)
@@ -216,12 +225,99 @@ told_as_said o e tables held openings (s ∷ rest) =
     ap (λ (n : ℕ). n + told_times o tables h.listening.held h.listening.openings rest) (once_kept o e tables held openings s.time r)
     ∙ ap (λ (n : ℕ). said_once o (outcome_of (hear_read tables held s.time r).saying) + n) others
 
+not_cut : (o : SegmentOutcome) → IsNoRefusal o → same_outcome o outcome.CutOff ≡ false
+not_cut o (IsVerified e) = rw e refl
+not_cut o (IsOfNoNode e) = rw e refl
+not_cut o (IsTooMany e) = rw e refl
+
 pub unrefused_counted : (tables : List Table) (given : List GivenIsns) (packets : List CapturePacket) (o : SegmentOutcome) → IsNoRefusal o →
     counted o (sessions_of (without_laps tables) given packets).uses ≡ said_times o (sayings_from tables (given_after [] given) (all_stored packets))
 unrefused_counted tables given packets o e =
     sym (counted_kept o e (sessions_of (without_laps tables) given packets).uses)
-    ∙ (verdicts_counted tables given packets o
+    ∙ (verdicts_counted tables given packets o (not_cut o e)
     ∙ told_as_said o e tables (given_after [] given) [] (all_stored packets))
+
+-- ---- what was cut off
+
+-- what is heard of a segment is another outcome
+refused_whole : (why : Verdict) → same_outcome outcome.CutOff (outcome.Refused why) ≡ false
+refused_whole (Pass p) = refl
+refused_whole NoAo = refl
+refused_whole TwoAo = refl
+refused_whole WithMd5 = refl
+refused_whole NoTuple = refl
+refused_whole Expired = refl
+refused_whole MacLength = refl
+refused_whole NoContext = refl
+refused_whole Range = refl
+refused_whole BadMac = refl
+
+abbrev IsWhole : Result SegmentOutcome DatagramFault → Type 0
+IsWhole said = IfOk said (λ o. same_outcome outcome.CutOff o ≡ false)
+
+once_whole : (w : Saying) → IsWhole (outcome_of w)
+once_whole (Unreadable fault) = tt
+once_whole UnknownNode = refl
+once_whole (TooManyConnections checksum) = refl
+once_whole (Judged (Ok p) checksum) = refl
+once_whole (Judged (Err why) checksum) = refused_whole why
+
+twice_whole : (w : Saying) → IsWhole (unconfirmed_of w)
+twice_whole (Unreadable fault) = tt
+twice_whole UnknownNode = refl
+twice_whole (TooManyConnections checksum) = refl
+twice_whole (Judged (Ok p) checksum) = refl
+twice_whole (Judged (Err (Pass p)) checksum) = refl
+twice_whole (Judged (Err NoAo) checksum) = refl
+twice_whole (Judged (Err TwoAo) checksum) = refl
+twice_whole (Judged (Err WithMd5) checksum) = refl
+twice_whole (Judged (Err NoTuple) checksum) = refl
+twice_whole (Judged (Err Expired) checksum) = refl
+twice_whole (Judged (Err MacLength) checksum) = refl
+twice_whole (Judged (Err NoContext) checksum) = refl
+twice_whole (Judged (Err Range) checksum) = refl
+twice_whole (Judged (Err BadMac) checksum) = refl
+
+whole_if : (b : Bool) (h k : Heard) (guessed : List Connection) (openings : List Opening) → IsWhole (listened b h k guessed openings).outcome
+whole_if true h k guessed openings = twice_whole k.saying
+whole_if false h k guessed openings = once_whole h.saying
+
+-- a segment that is read wasn't cut off
+read_whole : (b : List ℕ) (d : Segment) → reading b ≡ Read d → cut_once b ≡ 0
+unfolding cut_segment
+read_whole b d e = rw e refl
+
+cut_said : (s : Stored) (cut : Option Segment) (fault : DatagramFault) (ss : List SeenSegment) → outcome_times outcome.CutOff (seen_before (seen_cut s cut fault) ss) ≡ (if is_some cut then 1 else 0) + outcome_times outcome.CutOff ss
+cut_said s None fault ss = sym (zero_first (outcome_times outcome.CutOff ss))
+cut_said s (Some d) fault ss = refl
+
+whole_said : (s : Stored) (l : Listened) (d : Segment) (said : Result SegmentOutcome DatagramFault) (ss : List SeenSegment) → IsWhole said → reading s.bytes ≡ Read d →
+    outcome_times outcome.CutOff (seen_before (seen_as s l (Read d) said) ss) ≡ cut_once s.bytes + outcome_times outcome.CutOff ss
+whole_said s l d (Err fault) ss whole e = cut_said s (cut_segment s.bytes) fault ss
+whole_said s l d (Ok said) ss whole e = ap (λ (b : Bool). one_if b + outcome_times outcome.CutOff ss) whole ∙ ap (λ (n : ℕ). n + outcome_times outcome.CutOff ss) (sym (read_whole s.bytes d e))
+
+cut_once_said : (j : Judging) (l : Listening) (s : Stored) (r : Reading) (ss : List SeenSegment) → reading s.bytes ≡ r →
+    outcome_times outcome.CutOff (seen_before (seen_by s r (listen j l s.time r)) ss) ≡ cut_once s.bytes + outcome_times outcome.CutOff ss
+unfolding listen
+cut_once_said j l s (Bad fault) ss e = cut_said s (cut_segment s.bytes) fault ss
+cut_once_said j l s (Read d) ss e =
+    let h = hear_over j l.held s.time d in
+    let told = said_of j l s.time d in
+    let guessed = glimpsed d told l.openings l.guessed in
+    let k = hear_over j guessed s.time d in
+    let openings = openings_after d h.saying l.openings in
+    let m = listened (is_unknown told) h k guessed openings in
+    whole_said s m d m.outcome ss (whole_if (is_unknown told) h k guessed openings) e
+
+cut_heard : (j : Judging) (l : Listening) (stored : List Stored) → outcome_times outcome.CutOff (segments_heard j l stored) ≡ cut_times stored
+cut_heard j l [] = refl
+cut_heard j l (s ∷ rest) =
+    let r = reading s.bytes in
+    let h = listen j l s.time r in
+    cut_once_said j l s r (segments_heard j h.listening rest) refl ∙ ap (λ (n : ℕ). cut_once s.bytes + n) (cut_heard j h.listening rest)
+
+pub cut_counted : (j : Judging) (given : List GivenIsns) (packets : List CapturePacket) → counted outcome.CutOff (sessions_of j given packets).uses ≡ cut_times (all_stored packets)
+cut_counted j given packets = outcomes_counted j given packets outcome.CutOff ∙ cut_heard j (listening_behind given) (all_stored packets)
 
 -- ---- each packet
 

@@ -80,6 +80,7 @@ checked_word : (o : SegmentOutcome) → outcome_text (as_checked o) ≡ checked_
 checked_word outcome.Verified = refl
 checked_word outcome.NoNode = refl
 checked_word outcome.TooMany = refl
+checked_word outcome.CutOff = refl
 checked_word outcome.Unconfirmed = refl
 checked_word (outcome.UnconfirmedRefused why) = refl
 checked_word (outcome.Refused (Pass p)) = refl

@@ -14,9 +14,10 @@ use Rattle.book_sessions.specs.declared.outcome.SegmentOutcome.{SegmentOutcome}
 use Rattle.book_sessions.specs.declared.outcome.SegmentOutcome.TheVariants as outcome
 use Rattle.book_sessions.specs.declared.uses.SeenSegment.{SeenSegment}
 use Rattle.book_sessions.specs.Glimpses.{Opening, openings_after, glimpsed, is_judged, is_opened_anew, is_refused, is_unknown, told_anew}
+use Rattle.book_sessions.specs.CutOff.{cut_segment}
 use Rattle.book_sessions.specs.Laps.{Judging, is_searched, heard_further, heard_by, hear_over}
 use Rattle.book_sessions.specs.Listening.{Listening, Listened, outcome_of, pass_of, unconfirmed_of, heard_once, heard_twice, listen, said_of}
-use Rattle.book_sessions.specs.Sessions.{seen_as, seen_by}
+use Rattle.book_sessions.specs.Sessions.{seen_as, seen_by, seen_cut}
 use Rattle.book_sessions.specs.Counts.{as_checked, checked_by, seen_before, segments_heard, segments_seen}
 
 -- by these tables, without a search
@@ -264,9 +265,13 @@ outcome_alike tables l now (Read d) =
 
 -- ---- all segments
 
+cut_alike : (s : Stored) (cut : Option Segment) (fault : DatagramFault) (ss : List SeenSegment) → map seen_as_checked (seen_before (seen_cut s cut fault) ss) ≡ seen_before (seen_cut s cut fault) (map seen_as_checked ss)
+cut_alike s None fault ss = refl
+cut_alike s (Some d) fault ss = refl
+
 seen_alike : (s : Stored) (l m : Listened) (r : Reading) (o : Result SegmentOutcome DatagramFault) (ss : List SeenSegment) → l.listening.held ≡ m.listening.held → l.pass ≡ m.pass →
     map seen_as_checked (seen_before (seen_as s l r o) ss) ≡ seen_before (seen_as s m r (checked o)) (map seen_as_checked ss)
-seen_alike s l m r (Err fault) ss e f = refl
+seen_alike s l m r (Err fault) ss e f = cut_alike s (cut_segment s.bytes) fault ss
 seen_alike s l m (Bad fault) (Ok o) ss e f = refl
 seen_alike s l m (Read d) (Ok o) ss e f = rw (e, f) refl
 

@@ -1,5 +1,5 @@
 -- The numbers in a table of sessions, and how often something is said (own).
-use Rattle.std.specs.Prelude.{◌≡◌, ℕ, ◌+◌, Bool, false, List, [], ◌∷◌, Result, Ok, Err}
+use Rattle.std.specs.Prelude.{◌≡◌, ℕ, ◌+◌, Bool, false, List, [], ◌∷◌, Result, Ok, Err, is_some}
 use Rattle.std.specs.Prelude.{if◌then◌else◌}
 use Rattle.book_segments.specs.declared.fault.DatagramFault.{DatagramFault}
 use Rattle.book_segments.specs.Segments.{Reading, Read, Bad, reading}
@@ -13,6 +13,7 @@ use Rattle.book_sessions.specs.declared.uses.KeyUse.{KeyUse}
 use Rattle.book_sessions.specs.declared.uses.PassedCount.{PassedCount}
 use Rattle.book_sessions.specs.declared.uses.SeenSegment.{SeenSegment}
 use Rattle.book_sessions.specs.declared.uses.Signs.{Signs}
+use Rattle.book_sessions.specs.CutOff.{cut_segment}
 use Rattle.book_sessions.specs.Glimpses.{Opening, is_opened_anew, openings_after, told_anew}
 use Rattle.book_sessions.specs.Laps.{Judging}
 use Rattle.book_sessions.specs.Listening.{Listened, Listening, heard_once, listen, outcome_of}
@@ -84,6 +85,15 @@ told_times o tables held openings (s ∷ rest) =
     let h = checked_by tables held openings s.time (reading s.bytes) in
     said_once o h.outcome
     + told_times o tables h.listening.held h.listening.openings rest
+
+-- one, if bytes are a segment that was cut off (own)
+abbrev pub cut_once : List ℕ → ℕ
+cut_once b = if is_some (cut_segment b) then 1 else 0
+
+-- how many of these were cut off, so that their headers are there (own)
+abbrev pub cut_times : List Stored → ℕ
+cut_times [] = 0
+cut_times (s ∷ rest) = cut_once s.bytes + cut_times rest
 
 -- the segments of stored datagrams, each with what comes of it (own)
 abbrev pub segments_heard : Judging → Listening → List Stored → List SeenSegment

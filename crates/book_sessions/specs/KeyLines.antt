@@ -13,8 +13,9 @@ use Rattle.book_scope_texts.specs.Addresses.{usual_address_text}
 use Rattle.book_scope_texts.specs.Instants.{instant_text}
 use Rattle.book_sessions.specs.declared.retiring.MayGo.{MayGo}
 use Rattle.book_sessions.specs.declared.retiring.MayGo.TheVariants as go
+use Rattle.book_sessions.specs.declared.outcome.SegmentOutcome.{SegmentOutcome}
+use Rattle.book_sessions.specs.declared.outcome.SegmentOutcome.TheVariants as outcome
 use Rattle.book_sessions.specs.declared.uses.KeyUse.{KeyUse}
-use Rattle.book_sessions.specs.OutcomeTexts.{is_verified}
 use Rattle.book_sessions.specs.Peers.{peers_told}
 use Rattle.book_sessions.specs.Retiring.{Evidence, all_without, asks_for_row, carries_row}
 use Rattle.book_sessions.specs.Retiring.{goes_from, goes_without, does_without}
@@ -76,11 +77,12 @@ obstacle_by u does = obstacle_line (usual_address_text u.source.address ∷ does
     ∷ codes "packet" ∷ decimal u.packet ∷ codes "at" ∷ instant_text u.last ∷ [])
 
 -- why what goes the way of these doesn't do without the row (own)
-abbrev pub held_text : (verified carries asks : Bool) → List ℕ
-held_text false carries asks = codes "not verified"
-held_text true true asks = codes "still sends with it"
-held_text true false true = codes "asks for it"
-held_text true false false = codes "has not moved on"
+abbrev pub held_text : SegmentOutcome → (carries asks : Bool) → List ℕ
+held_text outcome.Verified true asks = codes "still sends with it"
+held_text outcome.Verified false true = codes "asks for it"
+held_text outcome.Verified false false = codes "has not moved on"
+held_text outcome.CutOff carries asks = codes "cut off"
+held_text said carries asks = codes "not verified"
 
 -- an address wasn't seen (own)
 abbrev pub unseen_line : Address → List ℕ
@@ -95,7 +97,7 @@ unanswered_line e u = if list_any (goes_from u.destination u.source) e.live
 abbrev pub held_line : Evidence → Table → (n : ℕ) → Row → KeyUse → List ℕ
 held_line e t n r u = if not (goes_without (wants_row t n r) e.uses u)
     then obstacle_by u
-    (held_text (is_verified u.outcome) (carries_row t n r u) (asks_for_row t r u))
+    (held_text u.outcome (carries_row t n r u) (asks_for_row t r u))
     else if does_without (wants_row t n r) u.destination u.source e.uses then []
     else unanswered_line e u
 

@@ -1,5 +1,6 @@
 pub mod AsSent
 pub mod Counts
+pub mod CutOff
 pub mod Foreign
 pub mod GivenLines
 pub mod Glimpses

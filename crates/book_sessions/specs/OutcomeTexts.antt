@@ -20,6 +20,7 @@ outcome_text outcome.NoNode = codes "unknown-node"
 outcome_text outcome.TooMany = codes "full"
 outcome_text outcome.Unconfirmed = codes "unconfirmed"
 outcome_text (outcome.UnconfirmedRefused why) = codes "unconfirmed-" ++ verdict_text why
+outcome_text outcome.CutOff = codes "cut-off"
 
 -- why a packet is passed over (own)
 abbrev pub passed_text : PassedOver → List ℕ

@@ -21,6 +21,7 @@ use Rattle.book_captures.specs.Frames.{Datagram}
 use Rattle.book_captures.specs.Captures.{CapturePacket, frame_datagram}
 use Rattle.book_scope.specs.PacketLines.{judged_bytes}
 use Rattle.book_sessions.specs.declared.outcome.SegmentOutcome.{SegmentOutcome}
+use Rattle.book_sessions.specs.declared.outcome.SegmentOutcome.TheVariants.{CutOff}
 use Rattle.book_sessions.specs.declared.outcome.PassedOver.{PassedOver}
 use Rattle.book_sessions.specs.declared.outcome.PassedOver.TheVariants as passed
 use Rattle.book_sessions.specs.declared.uses.FlowIsns.{FlowIsns}
@@ -36,6 +37,7 @@ use Rattle.book_sessions.specs.declared.uses.PassedCount.{PassedCount}
 use Rattle.book_sessions.specs.contracts.outcome.PassedOverPartialEq.TheImpl as passed_eq
 use Rattle.book_sessions.specs.contracts.uses.ProtectionPartialEq.TheImpl as protection_eq
 use Rattle.book_sessions.specs.AsSent.{is_unset_segment, mended, told_fault}
+use Rattle.book_sessions.specs.CutOff.{cut_segment}
 use Rattle.book_sessions.specs.Laps.{Judging}
 use Rattle.book_sessions.specs.Listening.{Listened, Listening, listen, listening_behind}
 use Rattle.book_sessions.specs.OutcomeTexts.{outcome_text}
@@ -118,10 +120,16 @@ seen_segment s d said pass = record {
   pass = pass;
 }
 
+-- a segment that was cut off, of which nothing was heard; or why bytes with this fault are passed
+-- over (own)
+abbrev pub seen_cut : Stored → Option Segment → DatagramFault → Result SeenSegment PassedOver
+seen_cut s (Some d) fault = Ok (seen_segment s d CutOff None)
+seen_cut s None fault = Err (passed.Faulty (told_fault s.bytes fault))
+
 -- the segment that stored bytes are, by what was heard of it, or why they are passed over (own)
 abbrev pub seen_as : Stored → Listened → Reading → Result SegmentOutcome DatagramFault →
     Result SeenSegment PassedOver
-seen_as s l bytes (Err fault) = Err (passed.Faulty (told_fault s.bytes fault))
+seen_as s l bytes (Err fault) = seen_cut s (cut_segment s.bytes) fault
 seen_as s l (Bad fault) (Ok said) = Err (passed.Faulty fault)
 seen_as s l (Read d) (Ok said) =
     Ok (seen_segment s d said (option_map (seen_pass d l.listening.held) l.pass))

@@ -14,10 +14,12 @@ pub enum SegmentOutcome {
     NoNode,
     /// It passes, and would fix a connection more than are held.
     TooMany,
-    /// Its connection's handshake isn't verified; it passes under initial sequence numbers that were seen.
+    /// The handshake of its connection isn't verified; it passes under initial sequence numbers that were seen.
     Unconfirmed,
     /// The same, and under these numbers it is refused for this reason.
     UnconfirmedRefused(Verdict),
+    /// It was cut off, and its headers are there.
+    CutOff,
 }
 
 /// Why a packet of a capture is no segment that the check judges.

@@ -1,3 +1,4 @@
+pub mod CutLaws
 pub mod GlimpseLaws
 pub mod HeldLaws
 pub mod LapLaws

@@ -1,5 +1,6 @@
 pub mod AsSent
 pub mod Begun
+pub mod CutOff
 pub mod Lines
 pub mod Listeners
 pub mod Openings

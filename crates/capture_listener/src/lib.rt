@@ -6,6 +6,7 @@
 
 mod anew;
 mod as_sent;
+mod cut_off;
 mod glimpses;
 mod ids;
 mod laps;
@@ -17,6 +18,7 @@ mod passes;
 
 pub use as_sent::{is_segment, mended, told_fault};
 pub use book_cmd_check::GivenIsns;
+pub use cut_off::cut_whole;
 pub use ids::key_ids;
 pub use listener::Listener;
 pub use outcomes::HeardSegment;

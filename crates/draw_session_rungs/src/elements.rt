@@ -74,6 +74,7 @@ pub(crate) fn outcome_dashes(said: SegmentOutcome) -> &'static [u8]
         SegmentOutcome::TooMany => b" stroke-dasharray=\"12 5\"",
         SegmentOutcome::Unconfirmed => b" stroke-dasharray=\"2 4\"",
         SegmentOutcome::UnconfirmedRefused(_) => b" stroke-dasharray=\"12 5\"",
+        SegmentOutcome::CutOff => b" stroke-dasharray=\"12 5\"",
     }
 }
 

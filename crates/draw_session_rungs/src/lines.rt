@@ -123,6 +123,7 @@ pub(crate) fn push_outcome(out: &mut Vec<u8>, outcome: SegmentOutcome) -> Result
         SegmentOutcome::TooMany => push_text(out, b"full"),
         SegmentOutcome::Unconfirmed => push_text(out, b"unconfirmed"),
         SegmentOutcome::UnconfirmedRefused(why) => push_unconfirmed(out, why),
+        SegmentOutcome::CutOff => push_text(out, b"cut-off"),
     }
 }
 
@@ -136,6 +137,7 @@ fn rung_stroke(outcome: SegmentOutcome) -> u8
         SegmentOutcome::TooMany => b'~',
         SegmentOutcome::Unconfirmed => b'.',
         SegmentOutcome::UnconfirmedRefused(_) => b'~',
+        SegmentOutcome::CutOff => b'~',
     }
 }
 

@@ -10,7 +10,9 @@ use Rattle.book_segments.specs.declared.fault.DatagramFault.{DatagramFault}
 use Rattle.book_segments.specs.Segments.{Segment, Reading, Read, Bad, reading}
 use Rattle.book_sessions.specs.declared.outcome.PassedOver.{PassedOver}
 use Rattle.book_sessions.specs.declared.outcome.SegmentOutcome.{SegmentOutcome}
-use Rattle.book_sessions.specs.AsSent.{lacks_checksum, mended}
+use Rattle.book_sessions.specs.declared.outcome.SegmentOutcome.TheVariants.{CutOff}
+use Rattle.book_sessions.specs.CutOff.{cut_segment}
+use Rattle.book_sessions.specs.AsSent.{is_segment, lacks_checksum, mended}
 use Rattle.book_sessions.specs.Laps.{Judging}
 use Rattle.book_sessions.specs.Listening.{Listening, listen}
 use Rattle.book_sessions.specs.Sessions.{stored_by, stored_of_packet}
@@ -36,6 +38,30 @@ kept_more Text n rungs r shown is = refl
 kept_more Picture n rungs r shown is = is
 
 module _ (q : Request) (before now : Drawer) (rungs : List SessionRung) (k : Listening) (follows : Follows q before rungs k) where
+  -- what draws, behind a segment that was drawn
+  module _ (r : SessionRung) (shown : Shown) (empty : before.text.items ≡ []) (number : now.search.number ≡ before.search.number)
+      (seeks : (rs : List SessionRung) → Seeks before.search rs → Seeks now.search (rs ++ r ∷ []))
+      (text : (rs : List SessionRung) → Seeks before.search rs → session_ladder before.search.number (rs ++ r ∷ []) ≡ session_ladder before.search.number rs ++ shown_text shown r)
+      (more : (rs : List SessionRung) → Seeks before.search rs → rungs_of_session before.search.number (rs ++ r ∷ []) ≡ rungs_of_session before.search.number rs ++ shown_rungs shown r)
+      (form : now.form ≡ before.form) (pushed : now.text.items ≡ before.text.items ++ shown_as before.form shown r) (keeps : now.kept.items ≡ before.kept.items ++ kept_as before.form shown r) where
+    drawn : now.text.items ≡ shown_as before.form shown r
+    drawn = pushed ∙ ap (λ (xs : List ℕ). xs ++ shown_as before.form shown r) empty
+
+    one : rungs_of_session q.number (rungs ++ r ∷ []) ≡ rungs_of_session q.number rungs ++ shown_rungs shown r
+    one = subst (λ (n : ℕ). rungs_of_session n (rungs ++ r ∷ []) ≡ rungs_of_session n rungs ++ shown_rungs shown r) follows.number (more rungs follows.seeks)
+
+    all_kept : now.kept.items ≡ kept_in q.form q.number (rungs ++ r ∷ [])
+    all_kept = keeps ∙ (ap (λ (xs : List SessionRung). xs ++ kept_as before.form shown r) follows.kept
+        ∙ (ap (λ f. kept_in q.form q.number rungs ++ kept_as f shown r) follows.form ∙ sym (kept_more q.form q.number rungs r shown one)))
+
+    one_follows : (after : Listening) → now.listener.judging ≡ before.listener.judging → Knows now.listener after → Follows q now (rungs ++ r ∷ []) after
+    one_follows after same knows =
+        record { form = form ∙ follows.form; judging = same ∙ follows.judging; knows = knows; number = number ∙ follows.number; seeks = seeks rungs follows.seeks; kept = all_kept }
+
+    one_text : q.form ≡ Text → session_ladder q.number (rungs ++ r ∷ []) ≡ session_ladder q.number rungs ++ now.text.items
+    one_text of_text = subst (λ (n : ℕ). session_ladder n (rungs ++ r ∷ []) ≡ session_ladder n rungs ++ shown_text shown r) follows.number (text rungs follows.seeks)
+        ∙ ap (λ (xs : List ℕ). session_ladder q.number rungs ++ xs) (sym (drawn ∙ ap (λ f. shown_as f shown r) (follows.form ∙ of_text)))
+
   -- a segment that was heard
   pub adds_heard : (packet time : ℕ) (d : Segment) (told : HeardSegment) (r : SessionRung) (shown : Shown) → before.text.items ≡ []
       → ((k : Listening) → Knows before.listener k → Listens now.listener told d (listen before.listener.judging k (time / 1000000000) (Read d)))
@@ -43,26 +69,39 @@ module _ (q : Request) (before now : Drawer) (rungs : List SessionRung) (k : Lis
       → ((rs : List SessionRung) → Seeks before.search rs → Seeks now.search (rs ++ r ∷ []))
       → ((rs : List SessionRung) → Seeks before.search rs → session_ladder before.search.number (rs ++ r ∷ []) ≡ session_ladder before.search.number rs ++ shown_text shown r)
       → ((rs : List SessionRung) → Seeks before.search rs → rungs_of_session before.search.number (rs ++ r ∷ []) ≡ rungs_of_session before.search.number rs ++ shown_rungs shown r)
-      → now.form ≡ before.form → now.text.items ≡ before.text.items ++ shown_as before.form shown r → now.kept.items ≡ before.kept.items ++ kept_as before.form shown r → AddsRead q now rungs k packet time (Read d)
+      → now.form ≡ before.form → now.text.items ≡ before.text.items ++ shown_as before.form shown r → now.kept.items ≡ before.kept.items ++ kept_as before.form shown r → AddsRead q now rungs k packet time d
   adds_heard packet time d told r shown empty heard same is number seeks text more form pushed keeps =
       let h : Listens now.listener told d (listen q.judging k (time / 1000000000) (Read d)) =
       subst (λ (j : Judging). Listens now.listener told d (listen j k (time / 1000000000) (Read d))) follows.judging (heard k follows.knows) in
       let all = listen q.judging k (time / 1000000000) (Read d) in
-      let drawn : now.text.items ≡ shown_as before.form shown r = pushed ∙ ap (λ (xs : List ℕ). xs ++ shown_as before.form shown r) empty in
-      let one : rungs_of_session q.number (rungs ++ r ∷ []) ≡ rungs_of_session q.number rungs ++ shown_rungs shown r =
-      subst (λ (n : ℕ). rungs_of_session n (rungs ++ r ∷ []) ≡ rungs_of_session n rungs ++ shown_rungs shown r) follows.number (more rungs follows.seeks) in
-      let all_kept : now.kept.items ≡ kept_in q.form q.number (rungs ++ r ∷ []) =
-      keeps ∙ (ap (λ (xs : List SessionRung). xs ++ kept_as before.form shown r) follows.kept
-      ∙ (ap (λ f. kept_in q.form q.number rungs ++ kept_as f shown r) follows.form ∙ sym (kept_more q.form q.number rungs r shown one))) in
       record {
         more = r ∷ [];
         after = all.listening;
-        follows = record { form = form ∙ follows.form; judging = same ∙ follows.judging; knows = h.knows; number = number ∙ follows.number; seeks = seeks rungs follows.seeks; kept = all_kept };
+        follows = one_follows r shown empty number seeks text more form pushed keeps all.listening same h.knows;
         comes = λ others. ap (λ o. rung_said (rung_heard packet time d all) o (others all.listening)) h.outcome
             ∙ ap (λ x. x ∷ others all.listening) (ap (λ x. session_rung packet time d told.outcome x) (sym h.pass) ∙ sym is);
-        text = λ of_text. subst (λ (n : ℕ). session_ladder n (rungs ++ r ∷ []) ≡ session_ladder n rungs ++ shown_text shown r) follows.number (text rungs follows.seeks)
-            ∙ ap (λ (xs : List ℕ). session_ladder q.number rungs ++ xs) (sym (drawn ∙ ap (λ f. shown_as f shown r) (follows.form ∙ of_text)));
+        text = one_text r shown empty number seeks text more form pushed keeps;
       }
+
+  -- bytes that are a segment that was cut off
+  cut_comes : (s : Stored) (time : ℕ) (fault : DatagramFault) (read : Reading) (cut : Option Segment) (d : Segment) (r : SessionRung) → read ≡ Bad fault → cut ≡ Some d → r ≡ session_rung s.number time d CutOff None → (others : Listening → List SessionRung)
+      → (let h = listen q.judging k s.time read in rung_before s.number time cut h read (others h.listening)) ≡ r ∷ others k
+  unfolding listen
+  cut_comes s time fault read cut d r bad is same others = rw (bad, is, same) refl
+
+  pub adds_cut : (s : Stored) (time : ℕ) (fault : DatagramFault) (d : Segment) (r : SessionRung) (shown : Shown) → reading s.bytes ≡ Bad fault → cut_segment s.bytes ≡ Some d → before.text.items ≡ []
+      → now.listener ≡ before.listener → r ≡ session_rung s.number time d CutOff None → now.search.number ≡ before.search.number
+      → ((rs : List SessionRung) → Seeks before.search rs → Seeks now.search (rs ++ r ∷ []))
+      → ((rs : List SessionRung) → Seeks before.search rs → session_ladder before.search.number (rs ++ r ∷ []) ≡ session_ladder before.search.number rs ++ shown_text shown r)
+      → ((rs : List SessionRung) → Seeks before.search rs → rungs_of_session before.search.number (rs ++ r ∷ []) ≡ rungs_of_session before.search.number rs ++ shown_rungs shown r)
+      → now.form ≡ before.form → now.text.items ≡ before.text.items ++ shown_as before.form shown r → now.kept.items ≡ before.kept.items ++ kept_as before.form shown r → Adds q now rungs k (Some time) (Ok s)
+  adds_cut s time fault d r shown bad cut empty still is number seeks text more form pushed keeps = record {
+    more = r ∷ [];
+    after = k;
+    follows = one_follows r shown empty number seeks text more form pushed keeps k (ap (λ x. x.judging) still) (rw still follows.knows);
+    comes = cut_comes s time fault (reading s.bytes) (cut_segment s.bytes) d r bad cut is;
+    text = one_text r shown empty number seeks text more form pushed keeps;
+  }
 
 module _ (q : Request) (d : Drawer) (rungs : List SessionRung) (k : Listening) (follows : Follows q d rungs k) (empty : d.text.items ≡ []) where
   follows_still : Follows q d (rungs ++ []) k
@@ -71,18 +110,18 @@ module _ (q : Request) (d : Drawer) (rungs : List SessionRung) (k : Listening) (
   text_still : q.form ≡ Text → session_ladder q.number (rungs ++ []) ≡ session_ladder q.number rungs ++ d.text.items
   text_still of_text = ap (session_ladder q.number) (append-nil rungs) ∙ (sym (append-nil (session_ladder q.number rungs)) ∙ ap (λ (xs : List ℕ). session_ladder q.number rungs ++ xs) (sym empty))
 
-  -- bytes that are no segment
-  bad_comes : (s : Stored) (time : ℕ) (fault : DatagramFault) (r : Reading) → r ≡ Bad fault → (others : Listening → List SessionRung)
-      → (let h = listen q.judging k s.time r in rung_before s.number time h r (others h.listening)) ≡ others k
+  -- bytes that are no segment, and none that was cut off
+  bad_comes : (s : Stored) (time : ℕ) (fault : DatagramFault) (r : Reading) (cut : Option Segment) → r ≡ Bad fault → cut ≡ None → (others : Listening → List SessionRung)
+      → (let h = listen q.judging k s.time r in rung_before s.number time cut h r (others h.listening)) ≡ others k
   unfolding listen
-  bad_comes s time fault r is others = rw is refl
+  bad_comes s time fault r cut is none others = rw (is, none) refl
 
-  pub adds_bad : (s : Stored) (time : ℕ) (fault : DatagramFault) → reading s.bytes ≡ Bad fault → Adds q d rungs k (Some time) (Ok s)
-  adds_bad s time fault is = record {
+  pub adds_bad : (s : Stored) (time : ℕ) (fault : DatagramFault) → reading s.bytes ≡ Bad fault → cut_segment s.bytes ≡ None → Adds q d rungs k (Some time) (Ok s)
+  adds_bad s time fault is none = record {
     more = [];
     after = k;
     follows = follows_still;
-    comes = bad_comes s time fault (reading s.bytes) is;
+    comes = bad_comes s time fault (reading s.bytes) (cut_segment s.bytes) is none;
     text = text_still;
   }
 
@@ -97,20 +136,24 @@ module _ (q : Request) (d : Drawer) (rungs : List SessionRung) (k : Listening) (
   adds_timeless number time frame found datagram is none = rw (is, none) (adds_none None _)
 
 -- what was read of the bytes
-adds_read : (q : Request) (d : Drawer) (rungs : List SessionRung) (k : Listening) (time number : ℕ) (bytes : List ℕ) (r : Reading) → reading bytes ≡ r → AddsRead q d rungs k number time r
-    → Adds q d rungs k (Some time) (Ok (record { number = number; time = time / 1000000000; bytes = bytes }))
-adds_read q d rungs k time number bytes r is adds = record {
+read_comes : (q : Request) (k : Listening) (time number : ℕ) (cut : Option Segment) (r : Reading) (d : Segment) → r ≡ Read d → (others : Listening → List SessionRung)
+    → (let h = listen q.judging k (time / 1000000000) r in rung_before number time cut h r (others h.listening)) ≡ (let h = listen q.judging k (time / 1000000000) (Read d) in rung_before number time None h (Read d) (others h.listening))
+read_comes q k time number cut r d is others = rw is refl
+
+adds_read : (q : Request) (drawer : Drawer) (rungs : List SessionRung) (k : Listening) (time number : ℕ) (bytes : List ℕ) (d : Segment) → reading bytes ≡ Read d → AddsRead q drawer rungs k number time d
+    → Adds q drawer rungs k (Some time) (Ok (record { number = number; time = time / 1000000000; bytes = bytes }))
+adds_read q drawer rungs k time number bytes d is adds = record {
   more = adds.more;
   after = adds.after;
   follows = adds.follows;
-  comes = λ others. ap (λ x. (let h = listen q.judging k (time / 1000000000) x in rung_before number time h x (others h.listening))) is ∙ adds.comes others;
+  comes = λ others. read_comes q k time number (cut_segment bytes) (reading bytes) d is others ∙ adds.comes others;
   text = adds.text;
 }
 
-pub adds_stored : {E : Type 0} (result : Result (Unit {0}) E) (q : Request) (d : Drawer) (rungs : List SessionRung) (k : Listening) (time number : ℕ) (bytes : List ℕ) (r : Reading) → reading bytes ≡ r
-    → OnOk result (AddsRead q d rungs k number time r) → OnOk result (Adds q d rungs k (Some time) (Ok (record { number = number; time = time / 1000000000; bytes = bytes })))
-adds_stored (Ok done) q d rungs k time number bytes r is adds = adds_read q d rungs k time number bytes r is adds
-adds_stored (Err e) q d rungs k time number bytes r is adds = tt
+pub adds_stored : {E : Type 0} (result : Result (Unit {0}) E) (q : Request) (drawer : Drawer) (rungs : List SessionRung) (k : Listening) (time number : ℕ) (bytes : List ℕ) (d : Segment) → reading bytes ≡ Read d
+    → OnOk result (AddsRead q drawer rungs k number time d) → OnOk result (Adds q drawer rungs k (Some time) (Ok (record { number = number; time = time / 1000000000; bytes = bytes })))
+adds_stored (Ok done) q drawer rungs k time number bytes d is adds = adds_read q drawer rungs k time number bytes d is adds
+adds_stored (Err e) q drawer rungs k time number bytes d is adds = tt
 
 given_found : (frame : List ℕ) (found : Result FoundDatagram Skipped) (r : Result Datagram Skipped) → Gives (seen frame) found r → r ≡ found_in frame found
 given_found frame (Ok d) r gives = gives
@@ -164,10 +207,34 @@ pub adds_told : {E : Type 0} (result : Result (Unit {0}) E) (q : Request) (befor
     → ((rs : List SessionRung) → Seeks before.search rs → session_ladder before.search.number (rs ++ r ∷ []) ≡ session_ladder before.search.number rs ++ shown_text shown r)
     → ((rs : List SessionRung) → Seeks before.search rs → rungs_of_session before.search.number (rs ++ r ∷ []) ≡ rungs_of_session before.search.number rs ++ shown_rungs shown r)
     → now.form ≡ before.form → now.text.items ≡ before.text.items ++ shown_as before.form shown r
-    → OnOk result (now.kept.items ≡ before.kept.items ++ kept_as before.form shown r) → OnOk result (AddsRead q now rungs k packet time (Read d))
+    → OnOk result (now.kept.items ≡ before.kept.items ++ kept_as before.form shown r) → OnOk result (AddsRead q now rungs k packet time d)
 adds_told (Ok done) q before now rungs k follows packet time d told r shown empty heard same is number seeks text more form pushed keeps =
     adds_heard q before now rungs k follows packet time d told r shown empty heard same is number seeks text more form pushed keeps
 adds_told (Err e) q before now rungs k follows packet time d told r shown empty heard same is number seeks text more form pushed keeps = tt
+
+-- bytes that are no segment have a fault
+pub fault_of : (r : Reading) → is_segment r ≡ false → (fault : DatagramFault) × (r ≡ Bad fault)
+fault_of (Bad fault) e = (fault, refl)
+fault_of (Read d) e = absurd (cc)
+
+pub one_read : (one other : Segment) → ◌≡◌ {A = Reading} (Read one) (Read other) → one ≡ other
+one_read one other e = cc
+
+pub rung_is : (s : Stored) (packet time : ℕ) (one other : Segment) (r : SessionRung) → s.number ≡ packet → one ≡ other → r ≡ session_rung packet time one CutOff None → r ≡ session_rung s.number time other CutOff None
+rung_is s packet time one other r number same is = rw (number, ← same) is
+
+-- a segment that was cut off, unless memory ran out for what is drawn of it
+pub cut_told : {E : Type 0} (result : Result (Unit {0}) E) (q : Request) (before now : Drawer) (rungs : List SessionRung) (k : Listening) → Follows q before rungs k
+    → (s : Stored) (time : ℕ) (fault : DatagramFault) (d : Segment) (r : SessionRung) (shown : Shown) → reading s.bytes ≡ Bad fault → cut_segment s.bytes ≡ Some d → before.text.items ≡ []
+    → now.listener ≡ before.listener → r ≡ session_rung s.number time d CutOff None → now.search.number ≡ before.search.number
+    → ((rs : List SessionRung) → Seeks before.search rs → Seeks now.search (rs ++ r ∷ []))
+    → ((rs : List SessionRung) → Seeks before.search rs → session_ladder before.search.number (rs ++ r ∷ []) ≡ session_ladder before.search.number rs ++ shown_text shown r)
+    → ((rs : List SessionRung) → Seeks before.search rs → rungs_of_session before.search.number (rs ++ r ∷ []) ≡ rungs_of_session before.search.number rs ++ shown_rungs shown r)
+    → now.form ≡ before.form → now.text.items ≡ before.text.items ++ shown_as before.form shown r
+    → OnOk result (now.kept.items ≡ before.kept.items ++ kept_as before.form shown r) → OnOk result (Adds q now rungs k (Some time) (Ok s))
+cut_told (Ok done) q before now rungs k follows s time fault d r shown bad cut empty still is number seeks text more form pushed keeps =
+    adds_cut q before now rungs k follows s time fault d r shown bad cut empty still is number seeks text more form pushed keeps
+cut_told (Err e) q before now rungs k follows s time fault d r shown bad cut empty still is number seeks text more form pushed keeps = tt
 
 -- bytes whose header checksum is set
 pub whole_is : (bytes : List ℕ) → lacks_checksum bytes ≡ false → mended bytes ≡ bytes

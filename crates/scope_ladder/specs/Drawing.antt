@@ -1,11 +1,13 @@
 -- What is drawn of a packet (own).
-use Rattle.std.specs.Prelude.{◌≡◌, ℕ, ◌/◌, List, ◌++◌, Option, Result}
+use Rattle.std.specs.Prelude.{◌≡◌, ℕ, ◌/◌, List, ◌++◌, Option, Some, None, Result}
 use Rattle.book_captures.specs.Captures.{CapturePacket}
 use Rattle.book_cmd_check.specs.Captures.{Stored}
 use Rattle.book_cmd_check.specs.declared.given.GivenIsns.{GivenIsns}
 use Rattle.book_keys.specs.Rows.{Table}
-use Rattle.book_segments.specs.Segments.{Reading}
+use Rattle.book_segments.specs.declared.fault.DatagramFault.{DatagramFault}
+use Rattle.book_segments.specs.Segments.{Bad, Read, Segment, reading}
 use Rattle.book_sessions.specs.declared.outcome.PassedOver.{PassedOver}
+use Rattle.book_sessions.specs.CutOff.{cut_segment}
 use Rattle.book_sessions.specs.Laps.{Judging}
 use Rattle.book_sessions.specs.Listening.{Listening, listen}
 use Rattle.book_sessions.specs.Sessions.{stored_of_packet}
@@ -58,15 +60,21 @@ pub record Follows (q : Request) (d : Drawer) (rungs : List SessionRung) (k : Li
   pub seeks : Seeks d.search rungs
   pub kept : d.kept.items ≡ kept_in q.form q.number rungs
 
--- what was read of a datagram that was seen at this time was drawn: it added these segments to the rungs, and
--- the text to the ladder, if one of text is asked for
-pub record AddsRead (q : Request) (d : Drawer) (rungs : List SessionRung) (k : Listening) (packet time : ℕ) (r : Reading) : Type 0 where
+-- a segment that was read, and seen at this time, was drawn: it added these segments to the rungs, and the text to
+-- the ladder, if one of text is asked for
+pub record AddsRead (q : Request) (drawer : Drawer) (rungs : List SessionRung) (k : Listening) (packet time : ℕ) (d : Segment) : Type 0 where
   pub more : List SessionRung
   pub after : Listening
-  pub follows : Follows q d (rungs ++ more) after
+  pub follows : Follows q drawer (rungs ++ more) after
   pub comes : (others : Listening → List SessionRung) →
-      (let h = listen q.judging k (time / 1000000000) r in rung_before packet time h r (others h.listening)) ≡ more ++ others after
-  pub text : q.form ≡ Text → session_ladder q.number (rungs ++ more) ≡ session_ladder q.number rungs ++ d.text.items
+      (let h = listen q.judging k (time / 1000000000) (Read d) in rung_before packet time None h (Read d) (others h.listening)) ≡ more ++ others after
+  pub text : q.form ≡ Text → session_ladder q.number (rungs ++ more) ≡ session_ladder q.number rungs ++ drawer.text.items
+
+-- what is stored of this packet has this fault, and is of this segment, which was cut off
+pub record IsCutAs (s : Stored) (packet : ℕ) (fault : DatagramFault) (d : Segment) : Type 0 where
+  pub number : s.number ≡ packet
+  pub bad : reading s.bytes ≡ Bad fault
+  pub cut : cut_segment s.bytes ≡ Some d
 
 -- the same of a packet seen at this time of which this is judged
 pub record Adds (q : Request) (d : Drawer) (rungs : List SessionRung) (k : Listening) (time : Option ℕ) (stored : Result Stored PassedOver) : Type 0 where

@@ -1,14 +1,16 @@
 //! A session of a capture, drawn packet by packet.
-ghost use Rattle.std.specs.Prelude.{◌≡◌, ◌≤◌, ◌<◌, ◌/◌, ◌∷◌, ◌++◌, [], ℕ, List, IfOk, IsSome, Ok, OnOk, Some, length};
+ghost use Rattle.std.specs.Prelude.{◌≡◌, ◌≤◌, ◌<◌, ◌/◌, ◌∷◌, ◌++◌, [], ℕ, false, List, IfOk, IsSome, Ok, OnOk, Some, length};
 ghost use Rattle.book_captures.specs.Captures.{CapturePacket};
-ghost use Rattle.book_segments.specs.Segments.{Read, reading};
-ghost use Rattle.book_sessions.specs.AsSent.{mended};
+ghost use Rattle.book_segments.specs.declared.fault.DatagramFault.{DatagramFault};
+ghost use Rattle.book_segments.specs.Segments.{Read, Segment as Cut, reading};
+ghost use Rattle.book_cmd_check.specs.Captures.{Stored};
+ghost use Rattle.book_sessions.specs.AsSent.{is_segment, mended};
 ghost use Rattle.book_sessions.specs.Listening.{Listening, listening_behind};
 ghost use Rattle.book_sessions.specs.Sessions.{stored_by};
 ghost use Rattle.book_draw_session.specs.Rungs.{session_rung};
 ghost use Rattle.book_draw_session.specs.declared.rung.SessionRung.{SessionRung as Segment};
 ghost use Rattle.scope_lines.specs.Writes.{found_in};
-ghost use Rattle.scope_ladder.specs.Drawing.{Adds, AddsPacket, AddsRead, Follows, Request, request_of};
+ghost use Rattle.scope_ladder.specs.Drawing.{Adds, AddsPacket, AddsRead, Follows, IsCutAs, Request, request_of};
 ghost use Rattle.scope_ladder.specs.Searches.{kept_as, shown_as, shown_rungs, shown_text};
 
 use crate::protections::protection_of;
@@ -16,8 +18,8 @@ use crate::search::{Search, Shown};
 use ao_base::Steps;
 use book_draw_session::SessionRung;
 use book_draw_session_svg::LadderForm;
-use book_sessions::GivenIsns;
-use capture_listener::{HeardSegment, Listener, key_ids, mended};
+use book_sessions::{GivenIsns, SegmentOutcome};
+use capture_listener::{HeardSegment, Listener, cut_whole, key_ids, mended};
 use capture_reader::FoundDatagram;
 use capture_stream::{CaptureReader, Skipped};
 use draw_session_rungs::{push_ends, push_rung};
@@ -156,7 +158,7 @@ impl Drawer {
     ) -> Result<(), AllocError>
         requires { self.old.text.items ≡ [] }
         ensures { (q : Request) (rungs : List Segment) (k : Listening) → Follows q self.old rungs k
-            → OnOk result (AddsRead q self.new rungs k packet time (Read datagram.now)) }
+            → OnOk result (AddsRead q self.new rungs k packet time datagram.now) }
     {
         let heard = self
             .listener
@@ -166,6 +168,48 @@ impl Drawer {
         let shown = self.search.place(&rung)?;
         push_shown(&mut self.text, form, shown, &rung)?;
         keep_shown(&mut self.kept, form, shown, &rung)
+    }
+
+    // Draws a segment that was cut off, whose bytes are those of the stored ones, with zeros for the missing ones.
+    fn draw_whole(&mut self, packet: u64, time: u64, bytes: &[u8]) -> Result<(), AllocError>
+        requires { self.old.text.items ≡ [] }
+        ensures { (q : Request) (rungs : List Segment) (k : Listening) (s : Stored) (fault : DatagramFault) (d : Cut) → Follows q self.old rungs k → reading bytes.now ≡ Read d
+            → IsCutAs s packet fault d → OnOk result (Adds q self.new rungs k (Some time) (Ok s)) }
+    {
+        let heard = HeardSegment {
+            outcome: SegmentOutcome::CutOff,
+            pass: None,
+        };
+        match read_datagram(bytes) {
+            Err(_) => Ok(()),
+            Ok(datagram) => {
+                let form = self.form;
+                let rung = session_rung(packet, time, &datagram, heard);
+                let shown = self.search.place(&rung)?;
+                push_shown(&mut self.text, form, shown, &rung)?;
+                keep_shown(&mut self.kept, form, shown, &rung)
+            }
+        }
+    }
+
+    // Draws bytes that are no datagram: a segment that was cut off, or nothing.
+    fn draw_cut(
+        &mut self,
+        alloc: Global,
+        packet: u64,
+        time: u64,
+        bytes: &[u8],
+    ) -> Result<(), AllocError>
+        requires text { self.old.text.items ≡ [] }
+        requires bad { is_segment (reading bytes.now) ≡ false }
+        ensures { (q : Request) (rungs : List Segment) (k : Listening) → Follows q self.old rungs k
+            → OnOk result (Adds q self.new rungs k (Some time) (Ok (record { number = packet; time = time / 1000000000; bytes = bytes.now }))) }
+    {
+        let found = cut_whole(alloc, bytes)?;
+        match found {
+            None => Ok(()),
+            Some(whole) => self.draw_whole(packet, time, whole.as_slice()),
+        }
     }
 
     // Draws the bytes that are judged at a time, in nanoseconds since 1970.
@@ -182,7 +226,7 @@ impl Drawer {
             → OnOk result (Adds q self.new rungs k (Some time) (Ok (record { number = packet; time = time / 1000000000; bytes = bytes.now }))) }
     {
         match read_datagram(bytes) {
-            Err(_) => Ok(()),
+            Err(_) => self.draw_cut(alloc, packet, time, bytes),
             Ok(datagram) => self.draw_datagram(alloc, steps, packet, time, &datagram),
         }
     }

@@ -8,20 +8,22 @@ use Rattle.book_captures.specs.Captures.{CapturePacket, frame_datagram}
 use Rattle.book_cmd_check.specs.Captures.{Stored}
 use Rattle.book_segments.specs.Segments.{Bad, Read, Reading, Segment, reading}
 use Rattle.book_sessions.specs.declared.outcome.PassedOver.{PassedOver}
+use Rattle.book_sessions.specs.declared.outcome.PassedOver.TheVariants as passed
+use Rattle.book_sessions.specs.declared.outcome.SegmentOutcome.TheVariants.{CutOff}
 use Rattle.book_sessions.specs.declared.uses.KeyUse.{KeyUse}
 use Rattle.book_sessions.specs.declared.uses.SeenSegment.{SeenSegment}
 use Rattle.book_sessions.specs.AsSent.{is_segment, is_unset_segment, lacks_checksum, mended, told_fault}
+use Rattle.book_sessions.specs.CutOff.{cut_segment}
 use Rattle.book_sessions.specs.Laps.{Judging}
 use Rattle.capture_listener.specs.declared.outcomes.HeardSegment.{HeardSegment}
 use Rattle.book_sessions.specs.Listening.{Listened, Listening, listen}
-use Rattle.book_sessions.specs.Sessions.{SessionTable, and_counted, seen_by, seen_segment, captured_by, captured_of_packet, with_unset}
+use Rattle.book_sessions.specs.Sessions.{SessionTable, and_counted, seen_by, seen_cut, seen_segment, captured_by, captured_of_packet, with_unset}
 use Rattle.book_sessions.specs.KeyLines.{last_of, later_of}
 use Rattle.capture_listener.specs.Listeners.{Hearing, Knows, Listens}
 use Rattle.capture_reader.specs.declared.frames.FoundDatagram.{FoundDatagram}
 use Rattle.capture_reader.specs.Found.{Gives, seen}
 use Rattle.scope_lines.specs.Writes.{found_in}
 use Rattle.book_segments.specs.declared.fault.DatagramFault.{DatagramFault}
-use Rattle.book_sessions.specs.declared.outcome.PassedOver.TheVariants as passed
 use Rattle.scope_sessions.specs.Counting.{CountsJudged, CountsPacket, CountsStored, IsHeard, IsSeen, stored_at}
 
 -- a packet that is passed over
@@ -86,11 +88,35 @@ last_more chosen uses left u last low here is =
     let cut : drop left uses ≡ u ∷ drop (left + 1) uses = rw (add-one left) (drop-cons uses left u low ∙ ap (λ x. x ∷ drop (suc left) uses) (sym here)) in
     rw (cut, is) refl
 
--- what is heard of bytes that are no datagram
-pub heard_bad : (j : Judging) (k : Listening) (after : Hearing) (s : Stored) (bytes : Reading) (fault told : DatagramFault) → bytes ≡ Bad fault → told ≡ told_fault s.bytes fault → Knows after k
-    → IsHeard s bytes (Err (passed.Faulty told)) after (listen j k s.time bytes)
+-- what is heard of bytes that are no datagram, unless memory ran out
+pub heard_bad : {E : Type 0} (result : Result (Result SeenSegment PassedOver) E) (j : Judging) (k : Listening) (after : Hearing) (s : Stored) (bytes : Reading) (fault : DatagramFault) → bytes ≡ Bad fault → IfOk result (λ seen. seen ≡ seen_cut s (cut_segment s.bytes) fault) → Knows after k
+    → IfOk result (λ seen. IsHeard s bytes seen after (listen j k s.time bytes))
 unfolding listen
-heard_bad j k after s bytes fault told is also knows = rw (is, also) (record { seen = refl; knows = knows })
+heard_bad (Ok seen) j k after s bytes fault is found knows = rw is (record { seen = found; knows = knows })
+heard_bad (Err e) j k after s bytes fault is found knows = tt
+
+-- ---- a segment that was cut off
+
+pub one_read : (one other : Segment) → ◌≡◌ {A = Reading} (Read one) (Read other) → one ≡ other
+one_read one other e = cc
+
+abbrev ok_seen : SeenSegment → Result SeenSegment DatagramFault
+ok_seen s = Ok s
+
+pub seen_off : (s : Stored) (one other : Segment) (seen : SeenSegment) → one ≡ other → seen ≡ seen_segment s one CutOff None → ok_seen seen ≡ ok_seen (seen_segment s other CutOff None)
+seen_off s one other seen same is = rw (is, same) refl
+
+abbrev said : SeenSegment → Result SeenSegment PassedOver
+said s = Ok s
+
+pub off_seen : (s : Stored) (d : Segment) (bytes : List ℕ) (fault : DatagramFault) (seen : SeenSegment) → cut_segment bytes ≡ Some d → ok_seen seen ≡ ok_seen (seen_segment s d CutOff None) → said seen ≡ seen_cut s (cut_segment bytes) fault
+off_seen s d bytes fault seen cut is = let same : seen ≡ seen_segment s d CutOff None = cc in rw (cut, same) refl
+
+abbrev faulty : DatagramFault → Result SeenSegment PassedOver
+faulty fault = Err (passed.Faulty fault)
+
+pub none_cut : (s : Stored) (bytes : List ℕ) (fault told : DatagramFault) → s.bytes ≡ bytes → cut_segment bytes ≡ None → told ≡ told_fault bytes fault → faulty told ≡ seen_cut s (cut_segment bytes) fault
+none_cut s bytes fault told same none is = rw (none, is, same) refl
 
 -- bytes that were stored, unless memory ran out
 pub stored_on : {E : Type 0} (result : Result (Unit {0}) E) (j : Judging) (k : Listening) (after : Hearing) (before now : SessionTable) (s : Stored) (seen : Result SeenSegment PassedOver)

@@ -1,19 +1,21 @@
 //! What comes of a stored datagram, as a segment that was seen.
-ghost use Rattle.std.specs.Prelude.{◌≡◌, IfOk, OnOk};
-ghost use Rattle.book_segments.specs.Segments.{Read, reading};
+ghost use Rattle.std.specs.Prelude.{◌≡◌, IfOk, None, Ok, OnOk};
+ghost use Rattle.book_segments.specs.Segments.{Read, Segment, reading};
 ghost use Rattle.book_cmd_check.specs.Captures.{Stored};
+ghost use Rattle.book_sessions.specs.declared.outcome.SegmentOutcome.TheVariants.{CutOff};
+ghost use Rattle.book_sessions.specs.CutOff.{cut_segment};
 ghost use Rattle.book_sessions.specs.Listening.{Listening, listen};
-ghost use Rattle.book_sessions.specs.Sessions.{bits_of, seen_segment};
+ghost use Rattle.book_sessions.specs.Sessions.{bits_of, seen_cut, seen_segment};
 ghost use Rattle.capture_listener.specs.Listeners.{Knows};
 ghost use Rattle.scope_sessions.specs.Counting.{IsHeard, IsSeen, stored_at};
 
 use crate::protections::protection_of;
 use ao_base::Steps;
-use book_sessions::{PassedOver, SeenBits, SeenSegment};
-use capture_listener::{HeardSegment, Listener, key_ids, told_fault};
+use book_sessions::{PassedOver, SeenBits, SeenSegment, SegmentOutcome};
+use capture_listener::{HeardSegment, Listener, cut_whole, key_ids, told_fault};
 use std::alloc::{AllocError, Global};
 use std::sync::ledger::Ledger;
-use tcp_segment::{Datagram, Flag, read_datagram};
+use tcp_segment::{Datagram, DatagramFault, Flag, read_datagram};
 
 fn bits_of(datagram: &Datagram<'_>) -> SeenBits
     ensures { result ≡ bits_of datagram.now }
@@ -60,8 +62,42 @@ fn listen<L: Ledger>(
     Ok(seen_segment(packet, time, datagram, heard))
 }
 
+// What is seen of the bytes of a segment that was cut off, with zeros for those that are missing.
+fn seen_whole(packet: u64, time: u64, bytes: &[u8]) -> Result<SeenSegment, DatagramFault>
+    ensures { (s : Stored) (d : Segment) → reading bytes.now ≡ Read d → s.number ≡ packet → s.time ≡ time → result ≡ Ok (seen_segment s d CutOff None) }
+{
+    let heard = HeardSegment {
+        outcome: SegmentOutcome::CutOff,
+        pass: None,
+    };
+    match read_datagram(bytes) {
+        Err(fault) => Err(fault),
+        Ok(datagram) => Ok(seen_segment(packet, time, &datagram, heard)),
+    }
+}
+
+// What is seen of bytes with this fault: a segment that was cut off, or why they are passed over.
+fn seen_cut(
+    alloc: Global,
+    packet: u64,
+    time: u64,
+    bytes: &[u8],
+    fault: DatagramFault,
+) -> Result<Result<SeenSegment, PassedOver>, AllocError>
+    ensures { (s : Stored) → s.number ≡ packet → s.time ≡ time → s.bytes ≡ bytes.now → IfOk result (λ seen. seen ≡ seen_cut s (cut_segment bytes.now) fault) }
+{
+    let found = cut_whole(alloc, bytes)?;
+    match found {
+        None => Ok(Err(PassedOver::Faulty(told_fault(bytes, fault)))),
+        Some(whole) => match seen_whole(packet, time, whole.as_slice()) {
+            Err(other) => Ok(Err(PassedOver::Faulty(other))),
+            Ok(seen) => Ok(Ok(seen)),
+        },
+    }
+}
+
 /// What is seen of the bytes of a packet that were stored at a time, in seconds since 1970, by what was heard
-/// before. The bytes are read once. An error for want of memory alone.
+/// before. An error for want of memory alone.
 pub(crate) fn hear<L: Ledger>(
     listener: &mut Listener,
     alloc: Global,
@@ -75,7 +111,7 @@ pub(crate) fn hear<L: Ledger>(
     ensures judging { listener.new.judging ≡ listener.old.judging }
 {
     match read_datagram(bytes) {
-        Err(fault) => Ok(Err(PassedOver::Faulty(told_fault(bytes, fault)))),
+        Err(fault) => seen_cut(alloc, packet, time, bytes, fault),
         Ok(datagram) => {
             let seen = listen(listener, alloc, steps, packet, time, &datagram)?;
             Ok(Ok(seen))

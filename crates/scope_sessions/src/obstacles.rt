@@ -2,27 +2,25 @@
 ghost use Rattle.std.specs.Prelude.{◌≡◌, ◌++◌, ◌∷◌, [], OnOk, codes};
 ghost use Rattle.std.specs.List.{flat_map, list_any};
 ghost use Rattle.book_scope_texts.specs.Addresses.{usual_address_text};
+ghost use Rattle.book_sessions.specs.declared.outcome.SegmentOutcome.TheVariants.{Verified};
 ghost use Rattle.book_sessions.specs.KeyLines.{absent_line, absent_text, doubt_line, held_line, held_line_at, held_text, is_peer_told, lacking_line, lines_without, obstacle_by, obstacle_line, obstacle_lines, unanswered_line, unseen_line};
 ghost use Rattle.book_sessions.specs.Retiring.{all_without, goes_from, is_of_peer, shows_peer};
 ghost use Rattle.scope_retiring.specs.Known.{HasSession};
 
 use crate::session_texts::{push_host, push_time};
 use book_base::{Address, Socket};
-use book_sessions::KeyUse;
+use book_sessions::{KeyUse, SegmentOutcome};
 use key_table::{Row, Table, Tables};
 use scope_retiring::{
     Evidence, all_without, asks_for_row, carries_row, goes_from, goes_without, is_at_row,
-    is_of_peer, is_verified, leaves_use, returns_without, sees_peer,
+    is_of_peer, leaves_use, returns_without, sees_peer,
 };
 use std::alloc::AllocError;
 use text_lines::{push_field, push_newline, push_text};
 
-fn held_word(verified: bool, carries: bool, asks: bool) -> &'static [u8]
-    ensures { result.now ≡ held_text verified carries asks }
+fn verified_word(carries: bool, asks: bool) -> &'static [u8]
+    ensures { result.now ≡ held_text Verified carries asks }
 {
-    if !verified {
-        return b"not verified";
-    }
     if carries {
         return b"still sends with it";
     }
@@ -30,6 +28,20 @@ fn held_word(verified: bool, carries: bool, asks: bool) -> &'static [u8]
         b"asks for it"
     } else {
         b"has not moved on"
+    }
+}
+
+fn held_word(outcome: SegmentOutcome, carries: bool, asks: bool) -> &'static [u8]
+    ensures { result.now ≡ held_text outcome carries asks }
+{
+    match outcome {
+        SegmentOutcome::Verified => verified_word(carries, asks),
+        SegmentOutcome::Refused(_) => b"not verified",
+        SegmentOutcome::NoNode => b"not verified",
+        SegmentOutcome::TooMany => b"not verified",
+        SegmentOutcome::Unconfirmed => b"not verified",
+        SegmentOutcome::UnconfirmedRefused(_) => b"not verified",
+        SegmentOutcome::CutOff => b"cut off",
     }
 }
 
@@ -85,7 +97,7 @@ fn push_held(
 {
     if !goes_without(evidence, table, number, row, one) {
         let does = held_word(
-            is_verified(one.outcome),
+            one.outcome,
             carries_row(table, number, row, one),
             asks_for_row(table, row, one),
         );

@@ -36,6 +36,7 @@ pub fn outcome_word(outcome: SegmentOutcome) -> &'static [u8]
         SegmentOutcome::TooMany => b"full",
         SegmentOutcome::Unconfirmed => b"unconfirmed",
         SegmentOutcome::UnconfirmedRefused(why) => unconfirmed_word(why),
+        SegmentOutcome::CutOff => b"cut-off",
     }
 }
 
