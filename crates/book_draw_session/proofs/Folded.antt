@@ -9,7 +9,7 @@ use Rattle.book_draw_session.specs.declared.fold.SessionLine.{SessionLine}
 use Rattle.book_draw_session.specs.declared.fold.SessionLine.TheVariants.{Whole, More}
 use Rattle.book_draw_session.specs.declared.rung.SessionEnds.{SessionEnds}
 use Rattle.book_draw_session.specs.declared.rung.SessionRung.{SessionRung}
-use Rattle.book_draw_session.specs.Folds.{after_drawn, fold_lines, fold_start, fold_step, folds_with, kinds_to, line_count, lines_count, lines_from, next_count, run_lines, run_with, session_lines}
+use Rattle.book_draw_session.specs.Folds.{after_drawn, fold_lines, fold_start, fold_step, folds_with, kinds_to, line_count, lines_count, folded_lines, counted_on, run_lines, run_with, folded_session}
 use Rattle.book_draw_session.specs.Ladders.{reached_end}
 
 abbrev run_count : Option RungRun → ℕ
@@ -55,7 +55,7 @@ by_fold false at f r room =
 one_more : (at : End) (f : Folding) (r : SessionRung) → run_count f.run + 1 ≤ 18446744073709551615 → lines_count (fold_lines at f r) + run_count (fold_step at f r).run ≡ run_count f.run + 1
 one_more at f r room = by_fold (folds_with (kinds_to at f) r) at f r room
 
-all_from : (e : SessionEnds) (f : Folding) (rs : List SessionRung) → run_count f.run + length rs ≤ 18446744073709551615 → lines_count (lines_from e f rs) ≡ run_count f.run + length rs
+all_from : (e : SessionEnds) (f : Folding) (rs : List SessionRung) → run_count f.run + length rs ≤ 18446744073709551615 → lines_count (folded_lines e f rs) ≡ run_count f.run + length rs
 all_from e f [] room = let told = run_told f.run in omega arith
 all_from e f (r ∷ rs) room =
     let at = reached_end e r in
@@ -63,12 +63,12 @@ all_from e f (r ∷ rs) room =
     let one = one_more at f r low in
     let room_now : run_count (fold_step at f r).run + length rs ≤ 18446744073709551615 = omega arith in
     let more = all_from e (fold_step at f r) rs room_now in
-    let split = count_more (fold_lines at f r) (lines_from e (fold_step at f r) rs) in
+    let split = count_more (fold_lines at f r) (folded_lines e (fold_step at f r) rs) in
     omega arith
 
-pub all_told : (e : SessionEnds) (rs : List SessionRung) → length rs ≤ 18446744073709551615 → lines_count (session_lines e rs) ≡ length rs
+pub all_told : (e : SessionEnds) (rs : List SessionRung) → length rs ≤ 18446744073709551615 → lines_count (folded_session e rs) ≡ length rs
 all_told e rs room =
     let from : 0 + length rs ≤ 18446744073709551615 = omega arith in
-    let all : lines_count (lines_from e fold_start rs) ≡ 0 + length rs = all_from e fold_start rs from in
-    let sum : lines_count (lines_from e fold_start rs) ≡ length rs = omega arith in
+    let all : lines_count (folded_lines e fold_start rs) ≡ 0 + length rs = all_from e fold_start rs from in
+    let sum : lines_count (folded_lines e fold_start rs) ≡ length rs = omega arith in
     sum

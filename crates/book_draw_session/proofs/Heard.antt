@@ -17,7 +17,7 @@ use Rattle.book_sessions.specs.Laps.{Judging}
 use Rattle.book_sessions.specs.Listening.{Listened, Listening, listen, listen_to, listening_behind}
 use Rattle.book_sessions.specs.Sessions.{all_stored, seen_as, seen_by, seen_cut, stored_before, stored_by}
 use Rattle.book_draw_session.specs.declared.rung.SessionRung.{SessionRung}
-use Rattle.book_draw_session.specs.Rungs.{drawn_by, rung_before, rung_cut, rung_heard, rung_said, session_rungs_from, rungs_in, seen_of}
+use Rattle.book_draw_session.specs.Rungs.{drawn_by, rung_before, rung_cut, rung_heard, rung_said, rungs_in, seen_at, seen_of, session_rungs_from}
 
 -- a segment that is read wasn't cut off
 pub read_uncut : (b : List ℕ) (d : Segment) → reading b ≡ Read d → cut_segment b ≡ None
@@ -36,7 +36,7 @@ said_drawn s time d l (Err why) others seen read at is = is ∙ ap (λ (cut : Op
 said_drawn s time d l (Ok said) others seen read at is = rw (at, is) refl
 
 read_drawn : (j : Judging) (k : Listening) (s : Stored) (time : ℕ) (r : Reading) (others : List SessionRung) (seen : List SeenSegment) → reading s.bytes ≡ r → s.time ≡ time / 1000000000 → map seen_of others ≡ seen
-    → map seen_of (rung_before s.number time (cut_segment s.bytes) (listen j k s.time r) r others) ≡ seen_before (seen_by s r (listen j k s.time r)) seen
+    → map seen_of (rung_before (seen_at s.number time) (cut_segment s.bytes) (listen j k s.time r) r others) ≡ seen_before (seen_by s r (listen j k s.time r)) seen
 unfolding listen
 read_drawn j k s time (Bad fault) others seen read at is = cut_drawn s time (cut_segment s.bytes) fault others seen at is
 read_drawn j k s time (Read d) others seen read at is = said_drawn s time d (listen_to j k s.time d) (listen_to j k s.time d).outcome others seen read at is

@@ -27,7 +27,7 @@ use Rattle.book_sessions.specs.Sessions.{SessionTable, and_counted, and_segment,
 use Rattle.book_sessions.specs.SessionTexts.{is_of_session}
 use Rattle.book_draw_session.specs.declared.rung.SessionEnds.{SessionEnds}
 use Rattle.book_draw_session.specs.declared.rung.SessionRung.{SessionRung}
-use Rattle.book_draw_session.specs.Rungs.{and_session, counted_in, drawn_by, ends_of, ends_of_use, is_between, rung_before, rung_cut, rung_heard, rung_said, session_rung, rungs_between, session_rungs_from, rungs_in, rungs_of_session, same_ends, seen_of, session_at, sessions_after, sessions_drawn}
+use Rattle.book_draw_session.specs.Rungs.{and_session, counted_in, drawn_by, ends_of, ends_of_use, is_between, rung_before, rung_cut, rung_heard, rung_said, rungs_between, rungs_in, rungs_of_session, same_ends, seen_at, seen_of, session_at, session_rung, session_rungs_from, sessions_after, sessions_drawn}
 use Rattle.book_draw_session.proofs.Heard.{read_uncut}
 use Rattle.book_draw_session.proofs.Places.{any_place, known_more, known_still, like_ends, many_more, number_more, number_now, number_of, one_less, other_zero, place, place_more, place_of, session_more, zero_other}
 use Rattle.book_draw_session.proofs.Numbers.{Agree, IsOf, agree_more, agree_used, all_of, count_used, ends_found, ends_in, ends_used, number_in, number_used, seen_ends, session_number}
@@ -261,7 +261,7 @@ said_fits s time d l (Ok said) known rs t others after read at later fits =
 
 read_fits : (j : Judging) (m : Listening) (s : Stored) (time : ℕ) (r : Reading) (known : List SessionEnds) (rs : List SessionRung) (t : SessionTable) (others : List SessionRung) (after : SessionTable → SessionTable)
     → reading s.bytes ≡ r → s.time ≡ time / 1000000000 → Later others after → Fits known t.sessions t.uses rs
-    → FitsLater known rs (after (and_counted (seen_by s r (listen j m s.time r)) t)) (rung_before s.number time (cut_segment s.bytes) (listen j m s.time r) r others)
+    → FitsLater known rs (after (and_counted (seen_by s r (listen j m s.time r)) t)) (rung_before (seen_at s.number time) (cut_segment s.bytes) (listen j m s.time r) r others)
 unfolding listen
 read_fits j m s time (Bad fault) known rs t others after read at later fits = cut_fits s time (cut_segment s.bytes) fault known rs t others after at later fits
 read_fits j m s time (Read d) known rs t others after read at later fits =

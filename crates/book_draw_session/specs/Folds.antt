@@ -1,5 +1,5 @@
 -- Runs of segments that say the same, as keepalives and their acknowledgements do: one line stands
--- for such a run. Our own choice of them. Its top is `session_lines`.
+-- for such a run. Our own choice of them. Its top is `folded_session`.
 use Rattle.std.specs.Prelude.{ℕ, ◌+◌, ◌-◌, ◌==◌, min, not, ◌&&◌, ◌||◌, Bool, true, false}
 use Rattle.std.specs.Prelude.{List, [], ◌∷◌, ◌++◌, codes, decimal, length, replicate}
 use Rattle.std.specs.Prelude.{Option, Some, None, option_map, if◌then◌else◌}
@@ -17,7 +17,7 @@ use Rattle.book_draw_session.specs.declared.fold.SessionLine.{SessionLine}
 use Rattle.book_draw_session.specs.declared.fold.SessionLine.TheVariants.{Whole, More}
 use Rattle.book_draw_session.specs.declared.rung.SessionEnds.{SessionEnds}
 use Rattle.book_draw_session.specs.declared.rung.SessionRung.{SessionRung}
-use Rattle.book_draw_session.specs.Ladders.{numbered, reached_end, rung_label, said_texts}
+use Rattle.book_draw_session.specs.Ladders.{numbered_line, reached_end, rung_label, said_texts}
 use Rattle.book_draw_session.specs.Ladders.{session_rung_text, time_margin}
 use Rattle.book_draw_session.specs.Rungs.{has_flag}
 
@@ -39,8 +39,8 @@ run_words r =
     ++ (44 ∷ spaced (said_texts r.outcome)))
 
 -- a segment neither begins nor ends a connection (RFC 9293, section 3.1)
-abbrev pub is_within : SessionRung → Bool
-is_within r =
+abbrev pub stands_within : SessionRung → Bool
+stands_within r =
     not (has_flag SYN r.flags) && (not (has_flag FIN r.flags) && not (has_flag RST r.flags))
 
 -- a segment says what that one, if there is one, says (own)
@@ -50,7 +50,7 @@ says_again (Some k) r = bytes_eq (rung_words k) (rung_words r)
 
 -- a segment may be told with others, after these of its direction (own)
 abbrev pub folds_with : RungKinds → SessionRung → Bool
-folds_with kinds r = is_within r && (says_again kinds.last r || says_again kinds.before r)
+folds_with kinds r = stands_within r && (says_again kinds.last r || says_again kinds.before r)
 
 -- a segment stays known behind this one if both name the same keys and the same is said of both
 -- (own)
@@ -68,14 +68,14 @@ kinds_to A f = f.to_left
 kinds_to B f = f.to_right
 
 -- one more, up to the greatest number of 64 bits (own)
-abbrev pub next_count : ℕ → ℕ
-next_count n = min (n + 1) 18446744073709551615
+abbrev pub counted_on : ℕ → ℕ
+counted_on n = min (n + 1) 18446744073709551615
 
 -- a run with one segment more (own)
 abbrev pub run_with : Option RungRun → SessionRung → RungRun
 run_with None r = record { count = 1; first = r; last = r; even = true }
 run_with (Some m) r = record {
-  count = next_count m.count;
+  count = counted_on m.count;
   first = m.first;
   last = r;
   even = m.even && bytes_eq (run_words m.first) (run_words r);
@@ -117,14 +117,14 @@ fold_start = record {
 }
 
 -- the lines of segments between these ends, behind others (own)
-abbrev pub lines_from : SessionEnds → Folding → List SessionRung → List SessionLine
-lines_from e f [] = run_lines f.run
-lines_from e f (r ∷ rs) =
-    fold_lines (reached_end e r) f r ++ lines_from e (fold_step (reached_end e r) f r) rs
+abbrev pub folded_lines : SessionEnds → Folding → List SessionRung → List SessionLine
+folded_lines e f [] = run_lines f.run
+folded_lines e f (r ∷ rs) =
+    fold_lines (reached_end e r) f r ++ folded_lines e (fold_step (reached_end e r) f r) rs
 
 -- the lines of segments between these ends (own)
-abbrev pub session_lines : SessionEnds → List SessionRung → List SessionLine
-session_lines e rs = lines_from e fold_start rs
+abbrev pub folded_session : SessionEnds → List SessionRung → List SessionLine
+folded_session e rs = folded_lines e fold_start rs
 
 -- how many segments a line stands for (own)
 abbrev pub line_count : SessionLine → ℕ

@@ -69,13 +69,13 @@ abbrev pub reached_end : SessionEnds → SessionRung → End
 reached_end e r = if same_socket r.source e.left then B else A
 
 -- the left margin: the number of a packet at its left, and the words at its right (own)
-abbrev pub numbered : (packet : ℕ) → (words : List ℕ) → List ℕ
-numbered packet words =
+abbrev pub numbered_line : (packet : ℕ) → (words : List ℕ) → List ℕ
+numbered_line packet words =
     decimal packet ++ (replicate (27 - length (decimal packet) - length words) 32 ++ words)
 
 -- the words beside an end, with the number of the packet where the end is the left one (own)
 abbrev pub margin_beside : End → (packet : ℕ) → (words : List ℕ) → List ℕ
-margin_beside A packet words = numbered packet words
+margin_beside A packet words = numbered_line packet words
 margin_beside B packet words = words
 
 -- an arrow from one end to the other that is drawn of this byte (own)

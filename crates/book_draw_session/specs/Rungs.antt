@@ -64,13 +64,22 @@ abbrev pub rung_cut : (packet time : ℕ) → Option Segment → List SessionRun
 rung_cut packet time None others = others
 rung_cut packet time (Some d) others = session_rung packet time d CutOff None ∷ others
 
+-- a packet by its number, and when it was seen, in nanoseconds (own)
+pub record SeenAt : Type 0 where
+  pub packet : ℕ
+  pub time : ℕ
+
+-- the packet of this number, seen at this time (own)
+abbrev pub seen_at : (packet time : ℕ) → SeenAt
+seen_at packet time = record { packet = packet; time = time }
+
 -- the rung of what is read, where it is a segment, or of the one that was cut off, in front of
 -- others (own)
-abbrev pub rung_before : (packet time : ℕ) → (cut : Option Segment) → Listened → Reading →
+abbrev pub rung_before : SeenAt → (cut : Option Segment) → Listened → Reading →
     List SessionRung → List SessionRung
-rung_before packet time cut l (Bad fault) others = rung_cut packet time cut others
-rung_before packet time cut l (Read d) others =
-    rung_said (rung_heard packet time d l) l.outcome others
+rung_before at cut l (Bad fault) others = rung_cut at.packet at.time cut others
+rung_before at cut l (Read d) others =
+    rung_said (rung_heard at.packet at.time d l) l.outcome others
 
 -- the rung of a packet seen at this time of which this is judged, in front of others behind what
 -- was heard with it (own)
@@ -78,8 +87,8 @@ abbrev pub drawn_by : Judging → Listening → (time : Option ℕ) → Result S
     (Listening → List SessionRung) → List SessionRung
 drawn_by j l time (Err why) others = others l
 drawn_by j l time (Ok s) others = let h = listen j l s.time (reading s.bytes) in
-    rung_before s.number (unwrap_or time 0) (cut_segment s.bytes) h (reading s.bytes)
-    (others h.listening)
+    rung_before (seen_at s.number (unwrap_or time 0)) (cut_segment s.bytes) h
+        (reading s.bytes) (others h.listening)
 
 -- the rungs of packets, behind what is known (own)
 abbrev pub session_rungs_from : Judging → Listening → List CapturePacket → List SessionRung

@@ -18,7 +18,7 @@ use Rattle.book_draw_session.specs.declared.fold.SessionLine.{SessionLine}
 use Rattle.book_draw_session.specs.declared.fold.SessionLine.TheVariants.{Whole, More}
 use Rattle.book_draw_session.specs.declared.rung.SessionEnds.{SessionEnds}
 use Rattle.book_draw_session.specs.declared.rung.SessionRung.{SessionRung}
-use Rattle.book_draw_session.specs.Folds.{run_label, session_lines}
+use Rattle.book_draw_session.specs.Folds.{run_label, folded_session}
 use Rattle.book_draw_session.specs.Ladders.{end_name, said_texts, reached_end, rung_label}
 use Rattle.book_draw_session.specs.Ladders.{session_ladder, time_margin}
 use Rattle.book_draw_session.specs.Rungs.{rungs_of_session, session_at, sessions_drawn}
@@ -143,13 +143,13 @@ rung_title r =
     ++ (rung_numbers r ++ (rung_label r ++ spaced (said_texts r.outcome)))
 
 -- the KeyID of a segment, if it has one (RFC 5925, section 2.2)
-abbrev pub key_of : SessionRung → Option ℕ
-key_of r = option_map (λ ids. ids.key_id) r.ids
+abbrev pub key_said : SessionRung → Option ℕ
+key_said r = option_map (λ ids. ids.key_id) r.ids
 
 -- the element of a segment between these ends, in the colour of its KeyID (own)
 unfoldable pub rung_svg : SessionEnds → RungInRow → List ℕ
 rung_svg e p =
-    titled_tag (codes "segment") (colour_text (key_of p.rung))
+    titled_tag (codes "segment") (colour_text (key_said p.rung))
     (rung_title p.rung) (rung_drawing_svg (reached_end e p.rung) p)
 
 -- the title of a run: its first packet and its last one, when they were seen, and its words (own)
@@ -178,8 +178,8 @@ line_element e row (Whole r) = rung_svg e (rung_in_row row r)
 line_element e row (More m) = run_svg row m
 
 -- the same, of a line in its row (own)
-abbrev pub line_svg : SessionEnds → LineInRow → List ℕ
-line_svg e p = line_element e p.row p.line
+abbrev pub session_line_svg : SessionEnds → LineInRow → List ℕ
+session_line_svg e p = line_element e p.row p.line
 
 -- the tip of an arrow (SVG 2, section 13.7, own)
 unfoldable pub arrow_tip_svg : List ℕ
@@ -205,7 +205,7 @@ outcome_samples_svg =
 -- the keys that are known, after a segment (own)
 abbrev pub and_key : List (Option ℕ) → SessionRung → List (Option ℕ)
 and_key known r =
-    if list_any (same_id (key_of r)) known then known else known ++ key_of r ∷ []
+    if list_any (same_id (key_said r)) known then known else known ++ key_said r ∷ []
 
 -- the keys that are known, after segments (own)
 abbrev pub keys_after : List (Option ℕ) → List SessionRung → List (Option ℕ)
@@ -257,14 +257,14 @@ session_front_svg e keys count =
     ++ (key_samples_from 0 keys ++ session_uprights_svg e (rung_height count))))
 
 -- the picture of lines of a session between these ends, whose segments have these keys (own)
-unfoldable pub lines_picture : SessionEnds → List (Option ℕ) → List SessionLine → List ℕ
-lines_picture e keys ls =
+unfoldable pub session_lines_picture : SessionEnds → List (Option ℕ) → List SessionLine → List ℕ
+session_lines_picture e keys ls =
     session_front_svg e keys (length ls)
-    ++ (flat_map (line_svg e) (session_rows ls) ++ codes "</svg>\n")
+    ++ (flat_map (session_line_svg e) (session_rows ls) ++ codes "</svg>\n")
 
 -- the picture of the segments of a session between these ends (own)
 abbrev pub session_picture : SessionEnds → List SessionRung → List ℕ
-session_picture e rs = lines_picture e (keys_drawn rs) (session_lines e rs)
+session_picture e rs = session_lines_picture e (keys_drawn rs) (folded_session e rs)
 
 -- the same, where there is a session (own)
 abbrev pub picture_between : Option SessionEnds → List SessionRung → List ℕ

@@ -35,8 +35,8 @@ is_with_feed longer shorter =
     && (ends_in_feed longer && same_bytes (take (length shorter) longer) shorter)
 
 -- how two keys that aren't equal differ (own)
-abbrev pub key_words : (one other : List ℕ) → List ℕ
-key_words one two =
+abbrev pub unequal_words : (one other : List ℕ) → List ℕ
+unequal_words one two =
     if is_with_feed two one then codes " bytes, equal but for 0a at the end of the second\n"
     else if is_with_feed one two then codes " bytes, equal but for 0a at the end of the first\n"
     else codes " bytes, not equal\n"
@@ -46,7 +46,7 @@ key_words one two =
 unfoldable pub key_text : (one other : List ℕ) → List ℕ
 key_text one two =
     codes "Key: " ++ (decimal (length one)
-    ++ (codes " and " ++ (decimal (length two) ++ key_words one two)))
+    ++ (codes " and " ++ (decimal (length two) ++ unequal_words one two)))
 
 -- the other end's row has the ids of the row that sends, but not exchanged (RFC 5925, section 3.1)
 abbrev pub has_same_ids : (sending other : Row) → Bool
@@ -80,8 +80,8 @@ direction_name Both = codes "both"
 direction_name Disabled = codes "disabled"
 
 -- that a row with this Direction isn't for what comes in (RFC 7210, section 2)
-unfoldable pub direction_text : Direction → List ℕ
-direction_text d = codes "Direction: " ++ (direction_name d ++ codes " isn't for what comes in\n")
+unfoldable pub wrong_direction_text : Direction → List ℕ
+wrong_direction_text d = codes "Direction: " ++ (direction_name d ++ codes " isn't for what comes in\n")
 
 -- that the peers of a row don't have the address (RFC 7210, section 2)
 unfoldable pub peers_text : Address → List ℕ
@@ -134,7 +134,7 @@ key_column_lines row r o d =
 unfoldable pub use_column_lines : (row : List ℕ) → Pair → (other : Row) → Differences → List ℕ
 use_column_lines row pair o d =
     line_if d.options row options_words
-    ++ (line_if d.direction row (direction_text o.direction) ++ connection_lines row pair o)
+    ++ (line_if d.direction row (wrong_direction_text o.direction) ++ connection_lines row pair o)
 
 -- the lines of all columns in which it differs (RFC 7210, section 2, and own)
 unfoldable pub difference_lines :

@@ -30,8 +30,8 @@ begins_accepting_after r o =
     (receives r.direction && receives o.direction) && nat_lt r.accepting.first o.accepting.first
 
 -- the second row begins later to do what both do (own)
-abbrev pub begins_after : (earlier later : Row) → Bool
-begins_after r o = begins_sending_after r o || begins_accepting_after r o
+abbrev pub begins_later : (earlier later : Row) → Bool
+begins_later r o = begins_sending_after r o || begins_accepting_after r o
 
 -- the row never ends to do something that a later one does too (own)
 abbrev pub is_left_open : (row later : Row) → Bool
@@ -46,7 +46,7 @@ never_ends pair rows r = list_any (λ o. matches o pair && is_left_open r o) row
 -- one of the rows is for the connection, is earlier than this one, and has its Key (own)
 abbrev pub has_old_key : Pair → List Row → Row → Bool
 has_old_key pair rows r =
-    list_any (λ o. matches o pair && (begins_after o r && same_bytes o.master r.master)) rows
+    list_any (λ o. matches o pair && (begins_later o r && same_bytes o.master r.master)) rows
 
 -- a note on a row, of this name (own)
 unfoldable pub note_line : (row words : List ℕ) → List ℕ

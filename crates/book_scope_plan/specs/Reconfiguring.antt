@@ -19,12 +19,12 @@ use Rattle.book_scope_plan.specs.FindingTexts.{Facing, facing_at, row_name, text
 use Rattle.book_scope_plan.specs.WayTexts.{SentRow}
 
 -- a lifetime neither of whose ends is given (RFC 7210, section 2)
-abbrev pub is_whole : Lifetime → Bool
-is_whole l = (l.first == 0) && nat_le greatest_time l.last
+abbrev pub is_unbounded : Lifetime → Bool
+is_unbounded l = (l.first == 0) && nat_le greatest_time l.last
 
 -- a row sends for the connection and has no lifetimes (own)
 abbrev pub is_timeless : Pair → Row → Bool
-is_timeless pair r = sends_for pair r && (is_whole r.sending && is_whole r.accepting)
+is_timeless pair r = sends_for pair r && (is_unbounded r.sending && is_unbounded r.accepting)
 
 -- a node's rows where from FROM until just before the time it sends with the old row, and from the
 -- time until TO with the new one; both are given by their numbers (own)

@@ -24,8 +24,8 @@ is_without_key protection.Ao = false
 is_without_key protection.Unclear = false
 
 -- these are neither from nor to a node of the key file, and carry no TCP-AO option (own)
-abbrev pub is_apart : List Table → KeyUse → Bool
-is_apart tables u = is_without_key u.protection
+abbrev pub is_of_others : List Table → KeyUse → Bool
+is_of_others tables u = is_without_key u.protection
     && not (is_of_node tables u.source.address || is_of_node tables u.destination.address)
 
 -- the segments of the session of this number (own)
@@ -35,7 +35,7 @@ uses_of uses n = filter (is_of_session n) uses
 -- all segments of the session of this number are neither from nor to a node of the key file, and
 -- carry no TCP-AO option (own)
 abbrev pub is_foreign : List Table → List KeyUse → (session : ℕ) → Bool
-is_foreign tables uses n = list_all (is_apart tables) (uses_of uses n)
+is_foreign tables uses n = list_all (is_of_others tables) (uses_of uses n)
 
 -- the chosen ones of the numbers of sessions from 1 to this one (own)
 abbrev pub numbers_where : (chosen : ℕ → Bool) → (last : ℕ) → List ℕ

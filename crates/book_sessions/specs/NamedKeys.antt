@@ -30,24 +30,32 @@ by_rows gives n (r ∷ rs) = gives n r ++ by_rows gives (suc n) rs
 abbrev pub by_nodes : {A : Type 0} → (Table → (n : ℕ) → Row → List A) → List Table → List A
 by_nodes gives tables = flat_map (λ t. by_rows (gives t) 1 t.rows) tables
 
+-- a word, and the key file of whose rows it names some (own)
+pub record Naming : Type 0 where
+  pub word : List ℕ
+  pub keys : KeyFile
+
+-- a word in a key file (own)
+abbrev pub naming : (word : List ℕ) → KeyFile → Naming
+naming word keys = record { word = word; keys = keys }
+
 -- the key line of the row, if the word names it (own)
-abbrev pub retire_line : (word : List ℕ) → KeyFile → Evidence → Table → (n : ℕ) → Row → List ℕ
-retire_line word keys e t n r =
-    if is_named_so word keys.document t n r then key_line keys e t n r else []
+abbrev pub retire_line : Naming → Evidence → Table → (n : ℕ) → Row → List ℕ
+retire_line w e t n r =
+    if is_named_so w.word w.keys.document t n r then key_line w.keys e t n r else []
 
 -- the key lines of the rows that the word names (own)
 abbrev pub retire_lines : (word : List ℕ) → KeyFile → Evidence → List ℕ
-retire_lines word keys e = by_nodes (retire_line word keys e) keys.tables
+retire_lines word keys e = by_nodes (retire_line (naming word keys) e) keys.tables
 
 -- whether the row may go, if the word names it (own)
-abbrev pub retire_answer :
-    (word : List ℕ) → KeyFile → Evidence → Table → (n : ℕ) → Row → List MayGo
-retire_answer word keys e t n r =
-    if is_named_so word keys.document t n r then may_go e keys.tables t n r ∷ [] else []
+abbrev pub retire_answer : Naming → Evidence → Table → (n : ℕ) → Row → List MayGo
+retire_answer w e t n r =
+    if is_named_so w.word w.keys.document t n r then may_go e w.keys.tables t n r ∷ [] else []
 
 -- whether each of the rows that the word names may go (own)
 abbrev pub retire_answers : (word : List ℕ) → KeyFile → Evidence → List MayGo
-retire_answers word keys e = by_nodes (retire_answer word keys e) keys.tables
+retire_answers word keys e = by_nodes (retire_answer (naming word keys) e) keys.tables
 
 -- the row may go (own)
 abbrev pub is_yes : MayGo → Bool

@@ -14,8 +14,8 @@ is_any None = true
 is_any (Some address) = false
 
 -- the address of the peer of these, which are at the row (own)
-abbrev pub peer_of : Table → Row → KeyUse → Address
-peer_of t r u = if sent_by t r u then u.destination.address else u.source.address
+abbrev pub peer_address : Table → Row → KeyUse → Address
+peer_address t r u = if sent_by t r u then u.destination.address else u.source.address
 
 -- these addresses, with one more where it isn't among them (own)
 abbrev pub with_address : Address → List Address → List Address
@@ -31,7 +31,7 @@ addresses_of chosen address (u ∷ us) = if chosen u
 -- how many different peers of the row were seen in connections that go on, and that no other
 -- followed (own)
 abbrev pub peers_seen : Evidence → Table → Row → ℕ
-peers_seen e t r = length (addresses_of (shows_peer e.uses t r None) (peer_of t r) e.live)
+peers_seen e t r = length (addresses_of (shows_peer e.uses t r None) (peer_address t r) e.live)
 
 -- the same, of a row that is for any peer (own)
 abbrev pub peers_told : Evidence → Table → Row → Option ℕ

@@ -1,7 +1,7 @@
 //! Runs of segments that say the same.
 ghost use Rattle.std.specs.Prelude.{◌≡◌, ◌++◌, ◌<◌, IfOk, OnOk};
 ghost use Rattle.std.specs.Str.{bytes_eq};
-ghost use Rattle.book_draw_session.specs.Folds.{after_drawn, and_kind, fold_lines, fold_start, fold_step, folds_with, is_within, kept_kind, kinds_to, lines_from, next_count, run_label, run_lines, run_with, says_again, session_lines};
+ghost use Rattle.book_draw_session.specs.Folds.{after_drawn, and_kind, fold_lines, fold_start, fold_step, folds_with, stands_within, kept_kind, kinds_to, folded_lines, counted_on, run_label, run_lines, run_with, says_again, folded_session};
 ghost use Rattle.book_draw_session.specs.Ladders.{reached_end};
 ghost use Rattle.book_draw_session.specs.Rungs.{has_flag};
 
@@ -26,7 +26,7 @@ const START: Folding = Folding {
 };
 
 fn one_more(count: u64) -> u64
-    ensures { result ≡ next_count count }
+    ensures { result ≡ counted_on count }
 {
     count.saturating_add(1)
 }
@@ -39,7 +39,7 @@ fn has_flag(flags: u8, flag: u8) -> bool
 }
 
 fn is_within(rung: &SessionRung) -> bool
-    ensures { result ≡ is_within rung.now }
+    ensures { result ≡ stands_within rung.now }
 {
     !has_flag(rung.flags, 0x02) && (!has_flag(rung.flags, 0x01) && !has_flag(rung.flags, 0x04))
 }
@@ -204,7 +204,7 @@ pub(crate) fn session_lines(
     ends: &SessionEnds,
     rungs: &[SessionRung],
 ) -> Result<Vec<SessionLine>, AllocError>
-    ensures { IfOk result (λ lines. lines.items ≡ session_lines ends.now rungs.now) }
+    ensures { IfOk result (λ lines. lines.items ≡ folded_session ends.now rungs.now) }
 {
     let mut lines = Vec::new(alloc);
     let mut folding = START;

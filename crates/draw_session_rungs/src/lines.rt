@@ -4,7 +4,7 @@ ghost use Rattle.book_draw.specs.Ladders.{arrowhead, length_label, line_at, way_
 ghost use Rattle.book_lines.specs.Texts.{spaced};
 ghost use Rattle.book_link.specs.Reports.{verdict_text};
 ghost use Rattle.book_sessions.specs.SessionTexts.{id_text};
-ghost use Rattle.book_draw_session.specs.Ladders.{end_name, ends_text, flag_letter, flag_letters, line_to, margin_beside, names_text, numbered, said_texts, reached_end, rung_label, rung_stroke, session_rung_text, time_margin};
+ghost use Rattle.book_draw_session.specs.Ladders.{end_name, ends_text, flag_letter, flag_letters, line_to, margin_beside, names_text, numbered_line, said_texts, reached_end, rung_label, rung_stroke, session_rung_text, time_margin};
 
 use ao_base::push_decimal;
 use book_base::{End, Socket};
@@ -161,7 +161,7 @@ pub(crate) fn reached_end(ends: &SessionEnds, rung: &SessionRung) -> End
 
 // Puts the left margin behind `out`: the number of a packet, and the words.
 fn push_numbered(out: &mut Vec<u8>, packet: u64, words: &[u8]) -> Result<(), AllocError>
-    ensures { OnOk result (out.new.items ≡ out.old.items ++ numbered packet words.now) }
+    ensures { OnOk result (out.new.items ≡ out.old.items ++ numbered_line packet words.now) }
 {
     let mut number = Vec::new(*out.allocator());
     push_decimal(&mut number, packet)?;

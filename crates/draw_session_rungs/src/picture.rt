@@ -1,6 +1,6 @@
 //! The picture of a session.
 ghost use Rattle.std.specs.Prelude.{◌≡◌, ◌≤◌, ◌++◌, IfOk, OnOk, flat_map, length};
-ghost use Rattle.book_draw_session_svg.specs.SessionPictures.{line_svg, lines_picture, session_picture, session_rows};
+ghost use Rattle.book_draw_session_svg.specs.SessionPictures.{session_line_svg, session_lines_picture, session_picture, session_rows};
 
 use crate::fold::session_lines;
 use crate::heads::push_front;
@@ -19,7 +19,7 @@ fn push_elements(
     lines: &[SessionLine],
 ) -> Result<(), AllocError>
     requires { length lines.now ≤ 4294967295 }
-    ensures { OnOk result (out.new.items ≡ out.old.items ++ flat_map (line_svg ends.now) (session_rows lines.now)) }
+    ensures { OnOk result (out.new.items ≡ out.old.items ++ flat_map (session_line_svg ends.now) (session_rows lines.now)) }
 {
     for (index, line) in lines.iter().enumerate() {
         push_line_element(out, ends, index as u32, line)?;
@@ -35,7 +35,7 @@ fn print_lines(
     keys: &[Option<u8>],
     lines: &[SessionLine],
 ) -> Result<Vec<u8>, AllocError>
-    ensures { IfOk result (λ text. text.items ≡ lines_picture ends.now keys.now lines.now) }
+    ensures { IfOk result (λ text. text.items ≡ session_lines_picture ends.now keys.now lines.now) }
 {
     if lines.len() > MOST_ROWS {
         return Err(AllocError);

@@ -21,7 +21,7 @@ use Rattle.book_plans.specs.Findings.{finding_by, findings, gap_findings, unmet_
 use Rattle.book_plans.specs.Ways.{changed_row, sending_in}
 use Rattle.book_scope_plan.specs.CalendarTexts.{row_numbered}
 use Rattle.book_scope_plan.specs.FindingTexts.{Facing, facing_at}
-use Rattle.book_scope_plan.specs.Reconfiguring.{earliest_switch, is_timeless, is_whole, latest_switch, new_taker, old_taker, span_between, span_by, switch_span, switched, takes_at}
+use Rattle.book_scope_plan.specs.Reconfiguring.{earliest_switch, is_timeless, is_unbounded, latest_switch, new_taker, old_taker, span_between, span_by, switch_span, switched, takes_at}
 use Rattle.law_plans.specs.Own.{IsAligned, switched_at}
 use Rattle.law_plans.proofs.Changing.{any_same, same_or_not}
 use Rattle.law_plans.proofs.Mending.{all_parts, each_met, got_all, no_reason_met, none_gap}
@@ -233,11 +233,11 @@ module _ (f : Facing) (r o : Row) (s : Lifetime) (time : ℕ) (span : switch_spa
         by_time t a b true e =
             let before : t < time = grind (arith, nat_tests) in
             any_got (sendable f.pair t) new_rows (n - 1) (sending_in old_life r) old_at
-            (sends_in r old_life t (and_tells (sends_for f.pair r) (is_whole r.sending && is_whole r.accepting) one).0 (to_contains old_life t a (omega (arith, before))))
+            (sends_in r old_life t (and_tells (sends_for f.pair r) (is_unbounded r.sending && is_unbounded r.accepting) one).0 (to_contains old_life t a (omega (arith, before))))
         by_time t a b false e =
             let after : time ≤ t = grind (arith, nat_tests) in
             any_got (sendable f.pair t) new_rows (m - 1) (sending_in new_life o) new_at
-            (sends_in o new_life t (and_tells (sends_for f.pair o) (is_whole o.sending && is_whole o.accepting) two).0 (to_contains new_life t after b))
+            (sends_in o new_life t (and_tells (sends_for f.pair o) (is_unbounded o.sending && is_unbounded o.accepting) two).0 (to_contains new_life t after b))
 
 -- ---- what two findings say of the other rows
 

@@ -18,7 +18,7 @@ use Rattle.book_sessions.specs.Listening.{Listening, listen}
 use Rattle.book_sessions.specs.Sessions.{stored_by, stored_of_packet}
 use Rattle.book_draw_session.specs.declared.rung.SessionRung.{SessionRung}
 use Rattle.book_draw_session.specs.Ladders.{session_ladder}
-use Rattle.book_draw_session.specs.Rungs.{rung_before, rung_heard, rung_said, session_rung, rungs_of_session}
+use Rattle.book_draw_session.specs.Rungs.{rung_before, rung_heard, rung_said, rungs_of_session, seen_at, session_rung}
 use Rattle.book_draw_session_svg.specs.declared.form.LadderForm.{LadderForm}
 use Rattle.book_draw_session_svg.specs.declared.form.LadderForm.TheVariants.{Text, Picture}
 use Rattle.capture_listener.specs.Listeners.{Knows, Listens}
@@ -85,7 +85,7 @@ module _ (q : Request) (before now : Drawer) (rungs : List SessionRung) (k : Lis
 
   -- bytes that are a segment that was cut off
   cut_comes : (s : Stored) (time : ℕ) (fault : DatagramFault) (read : Reading) (cut : Option Segment) (d : Segment) (r : SessionRung) → read ≡ Bad fault → cut ≡ Some d → r ≡ session_rung s.number time d CutOff None → (others : Listening → List SessionRung)
-      → (let h = listen q.judging k s.time read in rung_before s.number time cut h read (others h.listening)) ≡ r ∷ others k
+      → (let h = listen q.judging k s.time read in rung_before (seen_at s.number time) cut h read (others h.listening)) ≡ r ∷ others k
   unfolding listen
   cut_comes s time fault read cut d r bad is same others = rw (bad, is, same) refl
 
@@ -112,7 +112,7 @@ module _ (q : Request) (d : Drawer) (rungs : List SessionRung) (k : Listening) (
 
   -- bytes that are no segment, and none that was cut off
   bad_comes : (s : Stored) (time : ℕ) (fault : DatagramFault) (r : Reading) (cut : Option Segment) → r ≡ Bad fault → cut ≡ None → (others : Listening → List SessionRung)
-      → (let h = listen q.judging k s.time r in rung_before s.number time cut h r (others h.listening)) ≡ others k
+      → (let h = listen q.judging k s.time r in rung_before (seen_at s.number time) cut h r (others h.listening)) ≡ others k
   unfolding listen
   bad_comes s time fault r cut is none others = rw (is, none) refl
 
@@ -137,7 +137,7 @@ module _ (q : Request) (d : Drawer) (rungs : List SessionRung) (k : Listening) (
 
 -- what was read of the bytes
 read_comes : (q : Request) (k : Listening) (time number : ℕ) (cut : Option Segment) (r : Reading) (d : Segment) → r ≡ Read d → (others : Listening → List SessionRung)
-    → (let h = listen q.judging k (time / 1000000000) r in rung_before number time cut h r (others h.listening)) ≡ (let h = listen q.judging k (time / 1000000000) (Read d) in rung_before number time None h (Read d) (others h.listening))
+    → (let h = listen q.judging k (time / 1000000000) r in rung_before (seen_at number time) cut h r (others h.listening)) ≡ (let h = listen q.judging k (time / 1000000000) (Read d) in rung_before (seen_at number time) None h (Read d) (others h.listening))
 read_comes q k time number cut r d is others = rw is refl
 
 adds_read : (q : Request) (drawer : Drawer) (rungs : List SessionRung) (k : Listening) (time number : ℕ) (bytes : List ℕ) (d : Segment) → reading bytes ≡ Read d → AddsRead q drawer rungs k number time d

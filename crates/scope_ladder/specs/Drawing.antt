@@ -14,7 +14,7 @@ use Rattle.book_sessions.specs.Sessions.{stored_of_packet}
 use Rattle.book_draw_session.specs.declared.rung.SessionEnds.{SessionEnds}
 use Rattle.book_draw_session.specs.declared.rung.SessionRung.{SessionRung}
 use Rattle.book_draw_session.specs.Ladders.{session_ladder}
-use Rattle.book_draw_session.specs.Rungs.{drawn_by, rung_before, rungs_in, session_at, sessions_drawn}
+use Rattle.book_draw_session.specs.Rungs.{drawn_by, rung_before, rungs_in, seen_at, session_at, sessions_drawn}
 use Rattle.book_draw_session_svg.specs.declared.form.LadderForm.{LadderForm}
 use Rattle.book_draw_session_svg.specs.declared.form.LadderForm.TheVariants.{Text}
 use Rattle.book_draw_session_svg.specs.SessionPictures.{session_as}
@@ -67,7 +67,7 @@ pub record AddsRead (q : Request) (drawer : Drawer) (rungs : List SessionRung) (
   pub after : Listening
   pub follows : Follows q drawer (rungs ++ more) after
   pub comes : (others : Listening → List SessionRung) →
-      (let h = listen q.judging k (time / 1000000000) (Read d) in rung_before packet time None h (Read d) (others h.listening)) ≡ more ++ others after
+      (let h = listen q.judging k (time / 1000000000) (Read d) in rung_before (seen_at packet time) None h (Read d) (others h.listening)) ≡ more ++ others after
   pub text : q.form ≡ Text → session_ladder q.number (rungs ++ more) ≡ session_ladder q.number rungs ++ drawer.text.items
 
 -- what is stored of this packet has this fault, and is of this segment, which was cut off

@@ -2,7 +2,7 @@
 ghost use Rattle.std.specs.Prelude.{◌≡◌, ◌++◌, OnOk, decimal, length};
 ghost use Rattle.book_base.specs.Algorithms.{name_of};
 ghost use Rattle.book_segments.specs.Bytes.{same_bytes};
-ghost use Rattle.book_scope_plan.specs.DifferenceTexts.{algorithms_text, direction_name, direction_text, ends_in_feed, ids_end, ids_text, is_with_feed, key_text, key_words, peers_text, port_text};
+ghost use Rattle.book_scope_plan.specs.DifferenceTexts.{algorithms_text, direction_name, wrong_direction_text, ends_in_feed, ids_end, ids_text, is_with_feed, key_text, unequal_words, peers_text, port_text};
 
 use ao_base::push_decimal;
 use book_base::Address;
@@ -81,7 +81,7 @@ fn is_with_feed(longer: &[u8], shorter: &[u8]) -> bool
 
 /// How two keys that aren't equal differ.
 fn key_words(one: &[u8], other: &[u8]) -> &'static [u8]
-    ensures { result.now ≡ key_words one.now other.now }
+    ensures { result.now ≡ unequal_words one.now other.now }
 {
     if is_with_feed(other, one) {
         b" bytes, equal but for 0a at the end of the second\n"
@@ -148,7 +148,7 @@ pub(crate) fn push_direction_name(out: &mut Vec<u8>, direction: Direction) -> Re
 
 /// That a row with this Direction isn't for what comes in.
 pub(crate) fn push_direction(out: &mut Vec<u8>, direction: Direction) -> Result<(), AllocError>
-    ensures { OnOk result (out.new.items ≡ out.old.items ++ direction_text direction) }
+    ensures { OnOk result (out.new.items ≡ out.old.items ++ wrong_direction_text direction) }
 {
     out.extend_from_slice(b"Direction: ")?;
     push_direction_name(out, direction)?;

@@ -2,7 +2,7 @@
 ghost use Rattle.std.specs.Prelude.{◌≡◌, ◌==◌, ◌&&◌, ◌++◌, ◌≤◌, not, OnOk, option_map};
 ghost use Rattle.toml.specs.View.{table_view};
 ghost use Rattle.book_plans.specs.Differences.{differences};
-ghost use Rattle.book_scope_plan.specs.DifferenceTexts.{algorithms_text, are_exchanged, connection_lines, difference_head, difference_lines, direction_text, has_peer, has_same_ids, ids_text, key_column_lines, key_text, line_if, nearest_lines, options_words, peers_text, port_line, port_text, use_column_lines};
+ghost use Rattle.book_scope_plan.specs.DifferenceTexts.{algorithms_text, are_exchanged, connection_lines, difference_head, difference_lines, wrong_direction_text, has_peer, has_same_ids, ids_text, key_column_lines, key_text, line_if, nearest_lines, options_words, peers_text, port_line, port_text, use_column_lines};
 ghost use Rattle.book_scope_plan.specs.FindingTexts.{difference_count, fewest, one_if, row_name, text_if};
 ghost use Rattle.scope_plan.specs.Facings.{facing_of};
 
@@ -124,7 +124,7 @@ fn push_direction_if(
     name: &[u8],
     direction: Direction,
 ) -> Result<(), AllocError>
-    ensures { OnOk result (out.new.items ≡ out.old.items ++ line_if holds name.now (direction_text direction)) }
+    ensures { OnOk result (out.new.items ≡ out.old.items ++ line_if holds name.now (wrong_direction_text direction)) }
 {
     if !holds {
         return Ok(());

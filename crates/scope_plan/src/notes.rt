@@ -4,7 +4,7 @@ ghost use Rattle.toml.specs.View.{table_view};
 ghost use Rattle.book_keys.specs.Rows.{matches};
 ghost use Rattle.book_scope_plan.specs.DifferenceTexts.{ends_in_feed};
 ghost use Rattle.book_scope_plan.specs.FindingTexts.{row_name, text_if};
-ghost use Rattle.book_scope_plan.specs.Notes.{begins_accepting_after, begins_after, begins_sending_after, has_old_key, is_left_open, never_ends, note_if, note_line, notes_text, row_notes, rows_notes, side_notes};
+ghost use Rattle.book_scope_plan.specs.Notes.{begins_accepting_after, begins_later, begins_sending_after, has_old_key, is_left_open, never_ends, note_if, note_line, notes_text, row_notes, rows_notes, side_notes};
 ghost use Rattle.scope_plan.specs.Facings.{facing_of};
 
 use crate::columns::ends_in_feed;
@@ -32,7 +32,7 @@ fn begins_accepting_after(row: &Row, other: &Row) -> bool
 }
 
 fn begins_after(row: &Row, other: &Row) -> bool
-    ensures { result ≡ begins_after row.now other.now }
+    ensures { result ≡ begins_later row.now other.now }
 {
     begins_sending_after(row, other) || begins_accepting_after(row, other)
 }

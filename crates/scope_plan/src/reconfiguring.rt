@@ -4,7 +4,7 @@ ghost use Rattle.std.specs.List.{find};
 ghost use Rattle.book_keys.specs.Plans.{accepts_from};
 ghost use Rattle.book_scope_plan.specs.CalendarTexts.{are_both_ends, row_numbered};
 ghost use Rattle.book_scope_plan.specs.FindingTexts.{text_if};
-ghost use Rattle.book_scope_plan.specs.Reconfiguring.{earliest_switch, is_timeless, is_whole, latest_switch, new_taker, no_switch_line, old_taker, reconfiguring_text, span_between, span_by, switch_line, switch_span, switch_text, takes_at, timeless_text, two_findings_text, two_rows_text};
+ghost use Rattle.book_scope_plan.specs.Reconfiguring.{earliest_switch, is_timeless, is_unbounded, latest_switch, new_taker, no_switch_line, old_taker, reconfiguring_text, span_between, span_by, switch_line, switch_span, switch_text, takes_at, timeless_text, two_findings_text, two_rows_text};
 ghost use Rattle.scope_plan.specs.Facings.{facing_of};
 
 use crate::calendar::are_both_ends;
@@ -19,7 +19,7 @@ use std::alloc::AllocError;
 
 /// Whether neither end of a lifetime is given.
 fn is_whole(lifetime: Lifetime) -> bool
-    ensures { result ≡ is_whole lifetime }
+    ensures { result ≡ is_unbounded lifetime }
 {
     lifetime.first == 0 && LATEST <= lifetime.last
 }

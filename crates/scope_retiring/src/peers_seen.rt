@@ -2,7 +2,7 @@
 ghost use Rattle.std.specs.Prelude.{◌≡◌, IfOk, None, OnOk, Some, if◌then◌else◌};
 ghost use Rattle.std.specs.List.{list_any};
 ghost use Rattle.book_segments.specs.Sockets.{same_address};
-ghost use Rattle.book_sessions.specs.Peers.{addresses_of, is_any, peer_of, peers_seen, peers_told, with_address};
+ghost use Rattle.book_sessions.specs.Peers.{addresses_of, is_any, peer_address, peers_seen, peers_told, with_address};
 ghost use Rattle.book_sessions.specs.Retiring.{shows_peer};
 
 use crate::evidence::Evidence;
@@ -15,7 +15,7 @@ use key_table::{Row, Table};
 use std::alloc::{AllocError, Global};
 
 fn peer_of(table: &Table, row: &Row, one: &KeyUse) -> Address
-    ensures { result ≡ peer_of table.now row.now one.now }
+    ensures { result ≡ peer_address table.now row.now one.now }
 {
     if sent_by(table, row, one) {
         one.destination.address
@@ -49,7 +49,7 @@ fn add_chosen(
     row: &Row,
     one: &KeyUse,
 ) -> Result<(), AllocError>
-    ensures { OnOk result (found.new.items ≡ (if chosen then with_address (peer_of table.now row.now one.now) found.old.items else found.old.items)) }
+    ensures { OnOk result (found.new.items ≡ (if chosen then with_address (peer_address table.now row.now one.now) found.old.items else found.old.items)) }
 {
     if chosen {
         add_address(found, peer_of(table, row, one))
@@ -66,7 +66,7 @@ fn peer_addresses(
     table: &Table,
     row: &Row,
 ) -> Result<Vec<Address>, AllocError>
-    ensures { IfOk result (λ v. v.items ≡ addresses_of (shows_peer evidence.now.uses table.now row.now None) (peer_of table.now row.now) evidence.now.live) }
+    ensures { IfOk result (λ v. v.items ≡ addresses_of (shows_peer evidence.now.uses table.now row.now None) (peer_address table.now row.now) evidence.now.live) }
 {
     let mut found = Vec::new(alloc);
     let live = evidence.live();

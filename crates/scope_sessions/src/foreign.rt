@@ -3,7 +3,7 @@ ghost use Rattle.std.specs.Prelude.{◌≡◌, ◌++◌, ◌∷◌, [], ◌||◌
 ghost use Rattle.std.specs.List.{list_all, list_any};
 ghost use Rattle.book_lines.specs.Texts.{line_text};
 ghost use Rattle.book_sessions.specs.Counts.{all_counted};
-ghost use Rattle.book_sessions.specs.Foreign.{foreign_sessions, is_apart, is_foreign, is_of_node, is_without_key, listed_sessions, own_sessions, segments_of, uses_of};
+ghost use Rattle.book_sessions.specs.Foreign.{foreign_sessions, is_of_others, is_foreign, is_of_node, is_without_key, listed_sessions, own_sessions, segments_of, uses_of};
 ghost use Rattle.book_sessions.specs.OutcomeTexts.{is_verified};
 ghost use Rattle.book_sessions.specs.TableTexts.{foreign_line, foreign_lines, has_unverified, none_line};
 
@@ -53,13 +53,13 @@ fn is_at_node(tables: &Tables, one: &KeyUse) -> bool
 }
 
 fn is_apart(tables: &Tables, one: &KeyUse) -> bool
-    ensures { result ≡ is_apart tables.now one.now }
+    ensures { result ≡ is_of_others tables.now one.now }
 {
     is_without_key(one.protection) && !is_at_node(tables, one)
 }
 
 fn are_apart(tables: &Tables, uses: &[KeyUse]) -> bool
-    ensures { result ≡ list_all (is_apart tables.now) uses.now }
+    ensures { result ≡ list_all (is_of_others tables.now) uses.now }
 {
     uses.iter().all(|one| is_apart(tables, one))
 }
