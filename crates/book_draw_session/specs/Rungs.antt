@@ -88,7 +88,7 @@ abbrev pub drawn_by : Judging → Listening → (time : Option ℕ) → Result S
 drawn_by j l time (Err why) others = others l
 drawn_by j l time (Ok s) others = let h = listen j l s.time (reading s.bytes) in
     rung_before (seen_at s.number (unwrap_or time 0)) (cut_segment s.bytes) h
-        (reading s.bytes) (others h.listening)
+    (reading s.bytes) (others h.listening)
 
 -- the rungs of packets, behind what is known (own)
 abbrev pub session_rungs_from : Judging → Listening → List CapturePacket → List SessionRung
