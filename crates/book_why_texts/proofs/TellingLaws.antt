@@ -8,7 +8,7 @@ use Rattle.book_segments.specs.Segments.{Segment}
 use Rattle.book_cmd_check.specs.declared.given.GivenIsns.{GivenIsns}
 use Rattle.book_why.specs.declared.change.IsnPair.{IsnPair}
 use Rattle.book_why.proofs.ChangeLaws.{none, front, behind, front_or_behind}
-use Rattle.book_why_texts.specs.OtherIsns.{TellsIsns, are_own, isns_seen_from, other_isns, same_isn_pair, with_isn_pair, with_isn_pairs}
+use Rattle.book_why_texts.specs.OtherIsns.{TellsIsns, all_told_at, are_own, isns_seen_from, other_isns, same_isn_pair, with_isn_pair, with_isn_pairs}
 
 left_of : (a b : Bool) → (a && b) ≡ true → a ≡ true
 left_of true b e = refl
@@ -93,19 +93,26 @@ step_there : (own : Option IsnPair) (pairs : List IsnPair) (o : Option IsnPair) 
 step_there own pairs None x e another = absurd (cc)
 step_there own pairs (Some p) x e another = one_more_there own pairs p x (are_own own p || list_any (same_isn_pair p) pairs) refl (some_is p x e) another
 
+-- one of these is this pair, seen from the segment's source, and isn't its own
+record Tells (d : Segment) (own : Option IsnPair) (told : List GivenIsns) (x : IsnPair) : Type 0 where
+  teller : GivenIsns
+  among : Contains told teller
+  seen : isns_seen_from d teller ≡ Some x
+  another : are_own own x ≡ false
+
 module _ (d : Segment) (own : Option IsnPair) (x : IsnPair) where
-  later_tells : (g : GivenIsns) (gs : List GivenIsns) → TellsIsns d own gs x → TellsIsns d own (g ∷ gs) x
+  later_tells : (g : GivenIsns) (gs : List GivenIsns) → Tells d own gs x → Tells d own (g ∷ gs) x
   later_tells g gs t = record { teller = t.teller; among = behind gs g t.teller t.among; seen = t.seen; another = t.another }
 
-  told_from : (pairs : List IsnPair) (gs : List GivenIsns) → Contains (with_isn_pairs d own pairs gs) x → Contains pairs x ⊎ TellsIsns d own gs x
+  told_from : (pairs : List IsnPair) (gs : List GivenIsns) → Contains (with_isn_pairs d own pairs gs) x → Contains pairs x ⊎ Tells d own gs x
   told_from pairs [] h = inl h
   told_from pairs (g ∷ gs) h = at (told_from (with_isn_pair own pairs (isns_seen_from d g)) gs h)
     where
-      here : Contains pairs x ⊎ Is own (isns_seen_from d g) x → Contains pairs x ⊎ TellsIsns d own (g ∷ gs) x
+      here : Contains pairs x ⊎ Is own (isns_seen_from d g) x → Contains pairs x ⊎ Tells d own (g ∷ gs) x
       here (inl f) = inl f
       here (inr is) = inr (record { teller = g; among = front gs g; seen = is.seen; another = is.another })
 
-      at : Contains (with_isn_pair own pairs (isns_seen_from d g)) x ⊎ TellsIsns d own gs x → Contains pairs x ⊎ TellsIsns d own (g ∷ gs) x
+      at : Contains (with_isn_pair own pairs (isns_seen_from d g)) x ⊎ Tells d own gs x → Contains pairs x ⊎ Tells d own (g ∷ gs) x
       at (inl f) = here (step_to own pairs (isns_seen_from d g) x f)
       at (inr t) = inr (later_tells g gs t)
 
@@ -123,11 +130,11 @@ module _ (d : Segment) (own : Option IsnPair) (x : IsnPair) where
 
 pub isns_tried : (d : Segment) (own : Option IsnPair) (told : List GivenIsns) (isns : IsnPair) → Contains (other_isns d own told) isns ↔ TellsIsns d own told isns
 unfolding other_isns
-isns_tried d own told isns = (to, λ t. told_to d own isns [] told t.teller t.among t.seen t.another)
+isns_tried d own told isns = (to, λ t. told_to d own isns [] (all_told_at d told) t.teller t.among t.seen t.another)
   where
-    at : Contains [] isns ⊎ TellsIsns d own told isns → TellsIsns d own told isns
+    at : Contains [] isns ⊎ Tells d own (all_told_at d told) isns → TellsIsns d own told isns
     at (inl f) = absurd (none isns f)
-    at (inr t) = t
+    at (inr t) = record { teller = t.teller; among = t.among; seen = t.seen; another = t.another }
 
-    to : Contains (with_isn_pairs d own [] told) isns → TellsIsns d own told isns
-    to h = at (told_from d own isns [] told h)
+    to : Contains (with_isn_pairs d own [] (all_told_at d told)) isns → TellsIsns d own told isns
+    to h = at (told_from d own isns [] (all_told_at d told) h)
