@@ -52,10 +52,13 @@ destination_isn_by d g =
 abbrev pub may_tell : Segment → GivenIsns → Bool
 may_tell d g = (g.other_isn == 0) && (has ACK d && not (has SYN d))
 
+-- what is told of a connection, with the number of the destination that a segment tells (own)
+abbrev pub with_destination : Segment → GivenIsns → GivenIsns
+with_destination d g = record g { other_isn = destination_isn_by d g }
+
 -- what is told of a connection, and also with the number that the segment in question tells (own)
 abbrev pub told_at : Segment → GivenIsns → List GivenIsns
-told_at d g =
-    if may_tell d g then g ∷ record g { other_isn = destination_isn_by d g } ∷ [] else g ∷ []
+told_at d g = if may_tell d g then g ∷ with_destination d g ∷ [] else g ∷ []
 
 -- all that is told, at the segment in question (own)
 abbrev pub all_told_at : Segment → List GivenIsns → List GivenIsns

@@ -3,13 +3,14 @@ ghost use Rattle.std.specs.Prelude.{◌≡◌, ◌++◌, ◌&&◌, IfOk, OnOk, S
 ghost use Rattle.std.specs.List.{list_any};
 ghost use Rattle.book_segments.specs.Segments.{Read, reading};
 ghost use Rattle.book_segments.specs.Sockets.{same_socket};
-ghost use Rattle.book_why_texts.specs.OtherIsns.{are_own, isns_seen_from, other_isns, same_isn_pair, told_by_reading, with_isn_pair};
+ghost use Rattle.book_why_texts.specs.OtherIsns.{are_own, destination_isn_by, isns_seen_from, may_tell, other_isns, same_isn_pair, told_at, told_by_reading, told_by_syn, with_destination, with_isn_pair, with_isn_pairs};
 
+use crate::sight::isns_of_syn;
 use ao_base::is_same_socket;
 use book_base::Socket;
 use book_sessions::GivenIsns;
 use book_why::IsnPair;
-use capture_check::isns_told_by;
+use capture_check::acknowledged_isn;
 use std::alloc::{AllocError, Global};
 use tcp_segment::{Datagram, Flag, read_datagram};
 
@@ -45,10 +46,24 @@ fn is_same_pair(one: IsnPair, other: IsnPair) -> bool
     one.source_isn == other.source_isn && one.destination_isn == other.destination_isn
 }
 
+// A pair is that of the own connection, or of its SYN.
+fn is_of(own: IsnPair, pair: IsnPair) -> bool
+    ensures { result ≡ are_own (Some own) pair }
+{
+    let of_syn = IsnPair {
+        source_isn: own.source_isn,
+        destination_isn: 0,
+    };
+    is_same_pair(own, pair) || is_same_pair(of_syn, pair)
+}
+
 fn is_own(own: Option<IsnPair>, pair: IsnPair) -> bool
     ensures { result ≡ are_own own pair }
 {
-    own.is_some_and(|own| is_same_pair(own, pair))
+    match own {
+        None => false,
+        Some(own) => is_of(own, pair),
+    }
 }
 
 fn is_among(pairs: &[IsnPair], pair: IsnPair) -> bool
@@ -80,6 +95,52 @@ fn push_pair(
     }
 }
 
+// The initial sequence number of a SYN's destination, as a segment behind the SYN tells it.
+fn destination_isn_by(datagram: &Datagram<'_>, given: &GivenIsns) -> u32
+    ensures { result ≡ destination_isn_by datagram.now given.now }
+{
+    if is_same_socket(&given.one, &datagram.source()) {
+        acknowledged_isn(datagram)
+    } else {
+        datagram.sequence().wrapping_sub(1)
+    }
+}
+
+// Whether a segment itself may tell the number that a SYN couldn't.
+fn may_tell(datagram: &Datagram<'_>, given: &GivenIsns) -> bool
+    ensures { result ≡ may_tell datagram.now given.now }
+{
+    given.other_isn == 0 && datagram.has(Flag::Ack) && !datagram.has(Flag::Syn)
+}
+
+// What is told of a connection with the number that a segment tells.
+fn with_destination(datagram: &Datagram<'_>, given: &GivenIsns) -> GivenIsns
+    ensures { result ≡ with_destination datagram.now given.now }
+{
+    GivenIsns {
+        one: given.one,
+        one_isn: given.one_isn,
+        other: given.other,
+        other_isn: destination_isn_by(datagram, given),
+    }
+}
+
+fn push_told_at(
+    pairs: &mut Vec<IsnPair>,
+    datagram: &Datagram<'_>,
+    own: Option<IsnPair>,
+    given: &GivenIsns,
+) -> Result<(), AllocError>
+    ensures { OnOk result (pairs.new.items ≡ with_isn_pairs datagram.now own pairs.old.items (told_at datagram.now given.now)) }
+{
+    push_pair(pairs, own, seen_from(datagram, given))?;
+    if !may_tell(datagram, given) {
+        return Ok(());
+    }
+    let told = with_destination(datagram, given);
+    push_pair(pairs, own, seen_from(datagram, &told))
+}
+
 /// The initial sequence numbers of other connections on the sockets of a segment: of those that are told each
 /// pair once, but for those of its own connection.
 #[tactic(auto, unfolding(book_why_texts::specs::OtherIsns::other_isns))]
@@ -93,22 +154,35 @@ pub(crate) fn other_isns(
 {
     let mut pairs = Vec::new(alloc);
     for given in told {
-        push_pair(&mut pairs, own, seen_from(datagram, given))?;
+        push_told_at(&mut pairs, datagram, own, given)?;
     }
     Ok(pairs)
+}
+
+// What a SYN tells.
+fn told_by_syn(datagram: &Datagram<'_>) -> GivenIsns
+    ensures { result ≡ told_by_syn datagram.now }
+{
+    let isns = isns_of_syn(datagram);
+    GivenIsns {
+        one: datagram.source(),
+        one_isn: isns.source_isn,
+        other: datagram.destination(),
+        other_isn: isns.destination_isn,
+    }
 }
 
 fn push_told_by(told: &mut Vec<GivenIsns>, datagram: &Datagram<'_>) -> Result<(), AllocError>
     ensures { OnOk result (told.new.items ≡ told.old.items ++ told_by_reading (Read datagram.now)) }
 {
-    if datagram.has(Flag::Syn) && datagram.has(Flag::Ack) {
-        told.push(isns_told_by(datagram))?;
+    if datagram.has(Flag::Syn) {
+        told.push(told_by_syn(datagram))?;
     }
     Ok(())
 }
 
-/// Puts the initial sequence numbers that stored bytes tell behind `told`: those of a SYN with ACK. Where memory
-/// runs out `told` is as it was.
+/// Puts the initial sequence numbers that stored bytes tell behind `told`: those of a SYN. Where memory runs
+/// out `told` is as it was.
 pub(crate) fn push_told(told: &mut Vec<GivenIsns>, bytes: &[u8]) -> Result<(), AllocError>
     ensures { OnOk result (told.new.items ≡ told.old.items ++ told_by_reading (reading bytes.now)) }
 {

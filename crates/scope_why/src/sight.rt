@@ -36,7 +36,8 @@ fn destination_isn(datagram: &Datagram<'_>) -> u32
     }
 }
 
-fn isns_of_syn(datagram: &Datagram<'_>) -> IsnPair
+/// The initial sequence numbers of a SYN: its own, and with ACK that which it acknowledges, else 0.
+pub(crate) fn isns_of_syn(datagram: &Datagram<'_>) -> IsnPair
     ensures { result ≡ isns_of_syn datagram.now }
 {
     IsnPair {
