@@ -1,5 +1,6 @@
 pub mod EndLaws
 pub mod FrontLaws
+pub mod OtherLaws
 pub mod PacketLaws
 pub mod Parts
 pub mod RowLaws
