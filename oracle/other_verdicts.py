@@ -114,5 +114,5 @@ def of_connections():
     for _, what, scene in scenes(isns=(5, 9)):
         below = scene.segment(CLIENT, RING - 1000, 10, ACK, b"below")
         wrong = signed(below, scene.signing(below))
-        tells = "isns source 5 destination 9", ""
+        tells = "the number is below 0: aoscope sessions --laps N tries later laps", ""
         yield behind_opening(f"below-0-{what}", scene, scene.nodes, wrong, "range", tells)

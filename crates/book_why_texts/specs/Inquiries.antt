@@ -102,6 +102,15 @@ number_line s =
 abbrev pub limit_line : List ℕ
 limit_line = line_text (codes "numbers" ∷ codes "end" ∷ codes "at" ∷ decimal number_limit ∷ [])
 
+-- that the number of a segment is below 0, and what tries greater ones (own)
+abbrev pub below_line : List ℕ
+below_line = codes "the number is below 0: aoscope sessions --laps N tries later laps\n"
+
+-- why a segment is out of range, of its number, where that isn't below 0 (own)
+abbrev pub range_line : (number : Option ℕ) → List ℕ
+range_line None = below_line
+range_line (Some n) = limit_line
+
 -- the lines of the row, of the initial sequence numbers and of the number (own)
 abbrev pub values_lines : Inquiry → List ℕ
 values_lines q =
@@ -134,7 +143,7 @@ refusal_lines q MacLength =
     row_taking_line q ++ (if_found (lengths_line q) (ao_at q.sight)
     ++ if_found (changes_lines q) (suspect_at q.sight))
 refusal_lines q NoContext = row_taking_line q ++ no_handshake_line
-refusal_lines q Range = values_lines q ++ limit_line
+refusal_lines q Range = values_lines q ++ range_line (number_at q.sight)
 refusal_lines q BadMac = values_lines q ++ if_found (wrong_mac_lines q) (suspect_at q.sight)
 
 -- what a segment passes with: its row, its number, and how its MAC is made (RFC 5925, section 7.5)

@@ -21,11 +21,11 @@ use Rattle.book_base.specs.declared.address.Socket.{Socket}
 use Rattle.book_why.specs.declared.change.IsnPair.{IsnPair}
 use Rattle.book_why.specs.Recipes.{Suspect}
 use Rattle.book_why_texts.specs.Answers.{Behind, inquiry_of, reason_lines, said_and_why, said_behind, sight_behind}
-use Rattle.book_why_texts.specs.Inquiries.{Inquiry, changes_lines, if_found, length_line, limit_line, no_handshake_line, passing_values, refusal_lines, row_taking_line, values_lines, why_lines, isns_line, number_line, wrong_mac_lines}
+use Rattle.book_why_texts.specs.Inquiries.{Inquiry, changes_lines, if_found, length_line, no_handshake_line, passing_values, range_line, refusal_lines, row_taking_line, values_lines, why_lines, isns_line, number_line, wrong_mac_lines}
 use Rattle.book_why_texts.specs.Lacks.{row_shown_line}
 use Rattle.book_why_texts.specs.MacTexts.{mac_lines}
 use Rattle.book_why_texts.specs.OtherIsns.{other_isns}
-use Rattle.book_why_texts.specs.Sights.{Sight, ao_at, isns_at, row_at, suspect_at}
+use Rattle.book_why_texts.specs.Sights.{Sight, ao_at, isns_at, number_at, row_at, suspect_at}
 use Rattle.capture_check.specs.declared.answer.CheckLine.{CheckLine}
 use Rattle.capture_check.specs.declared.answer.CheckLine.TheVariants as line
 use Rattle.capture_check.specs.declared.known.KnownConnection.{KnownConnection}
@@ -115,7 +115,7 @@ module _ (document : Members) (tables : List Table) (told : List GivenIsns) (wit
   refused verdict.Expired = refl
   refused verdict.MacLength = wrong_length
   refused verdict.NoContext = ap (λ (x : List ℕ). x ++ no_handshake_line) taking
-  refused verdict.Range = ap (λ (x : List ℕ). x ++ limit_line) values
+  refused verdict.Range = ap (λ (x : List ℕ). x ++ range_line (number_at two.sight)) values
   refused verdict.BadMac = wrong_mac
 
   same_known : (s : Saying) → why_lines one s ≡ why_lines two s

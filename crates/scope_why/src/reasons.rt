@@ -1,7 +1,7 @@
 //! What decided what is said of a segment.
 ghost use Rattle.std.specs.Prelude.{◌≡◌, ◌++◌, ◌∷◌, OnOk, codes, decimal};
-ghost use Rattle.book_why_texts.specs.Inquiries.{if_found, lacking_lines, limit_line, no_handshake_line, node_line, options_line, passing_values, row_taking_line, values_lines};
-ghost use Rattle.book_why_texts.specs.Sights.{ao_at};
+ghost use Rattle.book_why_texts.specs.Inquiries.{if_found, lacking_lines, limit_line, no_handshake_line, node_line, options_line, passing_values, range_line, row_taking_line, values_lines};
+ghost use Rattle.book_why_texts.specs.Sights.{ao_at, number_at};
 ghost use Rattle.tcp_options.specs.Views.{view_ao};
 ghost use Rattle.scope_why.specs.Finding.{IsWithin, lines_of_said, lines_of_verdict};
 ghost use Rattle.scope_why.specs.Views.{inquiry_of, sight_of};
@@ -9,7 +9,7 @@ ghost use Rattle.scope_why.specs.Views.{inquiry_of, sight_of};
 use crate::inquiry::Inquiry;
 use crate::macs::{push_bad_mac, push_passing_values, push_wrong_length};
 use crate::rows::push_rows_and_lacks;
-use crate::sight::ao_at;
+use crate::sight::{ao_at, number_at};
 use crate::values::{push_row_taking, push_values};
 use ao_base::push_decimal;
 use book_endpoint::Verdict;
@@ -96,13 +96,25 @@ fn push_limit(out: &mut Vec<u8>) -> Result<(), AllocError>
     push_newline(out)
 }
 
+// Why a segment is out of range.
+fn push_range(out: &mut Vec<u8>, number: Option<u64>) -> Result<(), AllocError>
+    ensures { OnOk result (out.new.items ≡ out.old.items ++ range_line number) }
+{
+    match number {
+        None => out.extend_from_slice(
+            b"the number is below 0: aoscope sessions --laps N tries later laps\n",
+        ),
+        Some(_) => push_limit(out),
+    }
+}
+
 // The number of a segment is out of range.
 fn push_out_of_range(out: &mut Vec<u8>, inquiry: &Inquiry<'_>) -> Result<(), AllocError>
     requires { IsWithin inquiry.now }
-    ensures { OnOk result (out.new.items ≡ out.old.items ++ (values_lines (inquiry_of inquiry.now) ++ limit_line)) }
+    ensures { OnOk result (out.new.items ≡ out.old.items ++ (values_lines (inquiry_of inquiry.now) ++ range_line (number_at (sight_of inquiry.now)))) }
 {
     push_values(out, inquiry)?;
-    push_limit(out)
+    push_range(out, number_at(inquiry))
 }
 
 fn push_verdict(
