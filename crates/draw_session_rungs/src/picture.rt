@@ -28,7 +28,7 @@ fn push_elements(
 }
 
 /// The picture of lines between these ends, whose segments have these keys.
-#[tactic(auto, unfolding(book_draw_session_svg::specs::SessionPictures::lines_picture))]
+#[tactic(auto, unfolding(book_draw_session_svg::specs::SessionPictures::session_lines_picture))]
 fn print_lines(
     alloc: Global,
     ends: &SessionEnds,

@@ -2,6 +2,7 @@ pub mod Counting
 pub mod Ends
 pub mod GivenLaws
 pub mod JsonItems
+pub mod JsonTable
 pub mod KeyWords
 pub mod NamedRows
 pub mod Options

@@ -5,9 +5,9 @@ use Rattle.scope_ladder.proofs.drawer.Drawer.draw_whole.Goals as goal
 pub returns-in-Err : goal.returns-in-Err
 returns-in-Err c q rungs k s fault d follows read cut = let impossible = sym c.in-Err.ensures.refused ∙ read in absurd (cc)
 
-pub returns-in-Ok : goal.returns-in-Ok
-returns-in-Ok c q rungs k s fault d follows read cut =
+pub returns-in_ok-push_shown-in-Ok : goal.returns-in_ok-push_shown-in-Ok
+returns-in_ok-push_shown-in-Ok c q rungs k s fault d follows read cut =
     let same = one_read c.in-Ok.datagram d (sym c.in-Ok.ensures.read ∙ read) in
     cut_told c.keep_shown.result q c.args.self.now (record { form = c.args.self.now.form; listener = c.args.self.now.listener; search = c.place.new.self; text = c.push_shown.new.out; kept = c.keep_shown.new.kept }) rungs k follows s c.args.time fault d c.session_rung-rung.result
-    c.in_ok-shown.shown cut.bad cut.cut c.requires refl (rung_is s c.args.packet c.args.time c.in-Ok.datagram d c.session_rung-rung.result cut.number same c.session_rung-rung.ensures)
-    c.in_ok-shown.ensures.number c.in_ok-shown.ensures.seeks c.in_ok-shown.ensures.shown c.in_ok-shown.ensures.rungs refl c.in_ok-push_shown.ensures c.keep_shown.ensures
+    c.in_ok-shown-in-Ok.shown cut.bad cut.cut c.requires refl (rung_is s c.args.packet c.args.time c.in-Ok.datagram d c.session_rung-rung.result cut.number same c.session_rung-rung.ensures)
+    c.in_ok-shown-in-Ok.ensures.number c.in_ok-shown-in-Ok.ensures.seeks c.in_ok-shown-in-Ok.ensures.shown c.in_ok-shown-in-Ok.ensures.rungs refl c.in_ok-push_shown-in-Ok.ensures c.keep_shown.ensures
