@@ -1,6 +1,5 @@
 pub mod EndLaws
 pub mod FrontLaws
-pub mod OtherLaws
 pub mod PacketLaws
 pub mod Parts
 pub mod RowLaws
