@@ -1,6 +1,4 @@
-use Rattle.std.proofs.Common.{[], subst}
-use Rattle.book_cmd_check.specs.Handshakes.{given_after}
-use Rattle.capture_check.specs.Checkers.{StandsFor}
+use Rattle.std.proofs.Common.{[]}
 use Rattle.scope_why.specs.Replies.{asked_of, key_file_of}
 use Rattle.scope_why.proofs.Walk.{ends_none}
 use Rattle.scope_why.proofs.capture.answer_counted.Goals as goal
