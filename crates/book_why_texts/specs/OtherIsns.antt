@@ -1,7 +1,8 @@
 -- The initial sequence numbers that other connections on the sockets of a segment had. Its top is
 -- `other_isns`.
 use Rattle.std.specs.Prelude.{◌≡◌, ℕ, ◌+◌, ◌-◌, ◌%◌, ◌==◌, ◌&&◌, ◌||◌, not}
-use Rattle.std.specs.Prelude.{Bool, false, List, [], ◌∷◌, ◌++◌, Contains, Option, Some, None, if◌then◌else◌}
+use Rattle.std.specs.Prelude.{Bool, false, List, [], ◌∷◌, ◌++◌, Contains, Option, Some, None}
+use Rattle.std.specs.Prelude.{if◌then◌else◌}
 use Rattle.std.specs.List.{flat_map, list_any}
 use Rattle.book_segments.specs.Bytes.{ring}
 use Rattle.book_segments.specs.Segments.{Segment, Reading, Read, Bad, reading, has, SYN, ACK}
@@ -13,8 +14,8 @@ use Rattle.book_why_texts.specs.Sights.{isns_of_syn}
 
 -- what a SYN tells of initial sequence numbers: with ACK both, without it its own, and a 0 in place
 -- of the other one (RFC 9293, section 3.5)
-abbrev pub told_by_syn : Segment → GivenIsns
-told_by_syn d = record {
+abbrev pub numbers_of_syn : Segment → GivenIsns
+numbers_of_syn d = record {
   one = d.source;
   one_isn = (isns_of_syn d).source_isn;
   other = d.destination;
@@ -24,7 +25,7 @@ told_by_syn d = record {
 -- what stored bytes tell of initial sequence numbers: a SYN alone does (RFC 9293, section 3.5)
 abbrev pub told_by_reading : Reading → List GivenIsns
 told_by_reading (Bad fault) = []
-told_by_reading (Read d) = if has SYN d then told_by_syn d ∷ [] else []
+told_by_reading (Read d) = if has SYN d then numbers_of_syn d ∷ [] else []
 
 -- the initial sequence numbers of connections, as stored segments tell them, whether they pass or
 -- not (own)

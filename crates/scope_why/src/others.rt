@@ -3,7 +3,7 @@ ghost use Rattle.std.specs.Prelude.{◌≡◌, ◌++◌, ◌&&◌, IfOk, OnOk, S
 ghost use Rattle.std.specs.List.{list_any};
 ghost use Rattle.book_segments.specs.Segments.{Read, reading};
 ghost use Rattle.book_segments.specs.Sockets.{same_socket};
-ghost use Rattle.book_why_texts.specs.OtherIsns.{are_own, destination_isn_by, isns_seen_from, may_tell, other_isns, same_isn_pair, told_at, told_by_reading, told_by_syn, with_destination, with_isn_pair, with_isn_pairs};
+ghost use Rattle.book_why_texts.specs.OtherIsns.{are_own, destination_isn_by, isns_seen_from, may_tell, other_isns, same_isn_pair, told_at, told_by_reading, numbers_of_syn, with_destination, with_isn_pair, with_isn_pairs};
 
 use crate::sight::isns_of_syn;
 use ao_base::is_same_socket;
@@ -160,8 +160,8 @@ pub(crate) fn other_isns(
 }
 
 // What a SYN tells.
-fn told_by_syn(datagram: &Datagram<'_>) -> GivenIsns
-    ensures { result ≡ told_by_syn datagram.now }
+fn numbers_of_syn(datagram: &Datagram<'_>) -> GivenIsns
+    ensures { result ≡ numbers_of_syn datagram.now }
 {
     let isns = isns_of_syn(datagram);
     GivenIsns {
@@ -176,7 +176,7 @@ fn push_told_by(told: &mut Vec<GivenIsns>, datagram: &Datagram<'_>) -> Result<()
     ensures { OnOk result (told.new.items ≡ told.old.items ++ told_by_reading (Read datagram.now)) }
 {
     if datagram.has(Flag::Syn) {
-        told.push(told_by_syn(datagram))?;
+        told.push(numbers_of_syn(datagram))?;
     }
     Ok(())
 }
