@@ -234,8 +234,8 @@ impl Stack {
 
     /// A datagram comes at `now`, in milliseconds since 1970 and at most the last one of the year 9999: to
     /// the end of its pair (RFC 9293, section 3.10.7), which is told, or it knocks, or is a SYN that the check
-    /// refuses where no connection is held. Of a segment that its end heard the answer has the row, the number, the context and the TCP-AO option that were found, and
-    /// of no other.
+    /// refuses where no connection is held. Of a segment that its end heard the answer has the row, the number,
+    /// the context and the TCP-AO option that were found, and of no other.
     pub fn input<'a>(&mut self, now: u64, bytes: &'a [u8]) -> Heard<'a>
         requires time { now ≤ latest }
         ensures told { (s : StackState) → Stands self.old s

@@ -81,7 +81,8 @@ direction_name Disabled = codes "disabled"
 
 -- that a row with this Direction isn't for what comes in (RFC 7210, section 2)
 unfoldable pub wrong_direction_text : Direction → List ℕ
-wrong_direction_text d = codes "Direction: " ++ (direction_name d ++ codes " isn't for what comes in\n")
+wrong_direction_text d =
+    codes "Direction: " ++ (direction_name d ++ codes " isn't for what comes in\n")
 
 -- that the peers of a row don't have the address (RFC 7210, section 2)
 unfoldable pub peers_text : Address → List ℕ

@@ -1,7 +1,7 @@
 -- What is written of the planned rollover of each connection of an input. Our own format. Its tops
 -- are `plans_text` and `has_wrong_plan`.
-use Rattle.std.specs.Prelude.{◌≡◌, ◌⊎◌, ℕ, not, ◌&&◌, Bool, true, false, List, [], ◌∷◌, ◌++◌, codes, decimal}
-use Rattle.std.specs.Prelude.{flat_map, Option, Some, None, is_some}
+use Rattle.std.specs.Prelude.{◌≡◌, ◌⊎◌, ℕ, not, ◌&&◌, Bool, true, false, List, [], ◌∷◌, ◌++◌, codes}
+use Rattle.std.specs.Prelude.{decimal, flat_map, Option, Some, None, is_some}
 use Rattle.std.specs.List.{list_any, find}
 use Rattle.book_base.specs.declared.address.Address.{Address}
 use Rattle.book_base.specs.declared.address.Pair.{Pair}

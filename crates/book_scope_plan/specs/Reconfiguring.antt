@@ -1,8 +1,8 @@
 -- A node whose rows have no lifetimes, and which is reconfigured at one time: until then it sends
 -- with one row, from then on with another, and it accepts both throughout. Between which times that
 -- may be. Its tops are `switched` and `reconfiguring_text`.
-use Rattle.std.specs.Prelude.{ℕ, ◌+◌, ◌-◌, ◌==◌, ◌&&◌, not, max, min, nat_le, nat_lt, Bool, List, []}
-use Rattle.std.specs.Prelude.{◌∷◌, ◌++◌, codes, decimal, Option, Some, None, if◌then◌else◌}
+use Rattle.std.specs.Prelude.{ℕ, ◌+◌, ◌-◌, ◌==◌, ◌&&◌, not, max, min, nat_le, nat_lt, Bool, List}
+use Rattle.std.specs.Prelude.{[], ◌∷◌, ◌++◌, codes, decimal, Option, Some, None, if◌then◌else◌}
 use Rattle.std.specs.List.{find}
 use Rattle.book_base.specs.declared.address.Pair.{Pair}
 use Rattle.book_base.specs.declared.end.End.{End}

@@ -126,7 +126,9 @@ fn count_all<L: Ledger, I: Source, O: Sink>(
     requires reader { reader.old ≡ new_reading }
     requires index { index.old ≡ no_sessions }
     ensures { (isns : List GivenIsns) → Knows listener.old (listening_behind isns) → (given : List ℕ) ×
-        Counts (series_behind (table_view document.now) listener.old.judging isns request) given (I.side input.old) (I.side input.new) (O.side out.old) (O.side out.new) (counted_with listener.new index.new result) }
+        Counts (series_behind (table_view document.now) listener.old.judging isns request) given
+            (I.side input.old) (I.side input.new) (O.side out.old) (O.side out.new)
+            (counted_with listener.new index.new result) }
 {
     let mut since = None;
     'parts: loop {

@@ -54,7 +54,8 @@ fn count_mended<L: Ledger>(
     bytes: &[u8],
 ) -> Result<(), AllocError>
     ensures counts { (k : Listening) → Knows listener.old k → OnOk result
-        (CountsJudged listener.old.judging k listener.new (with_unset (is_segment (reading bytes.now)) index.old) index.new (Ok (stored_at packet time bytes.now))) }
+        (CountsJudged listener.old.judging k listener.new (with_unset (is_segment (reading bytes.now)) index.old)
+            index.new (Ok (stored_at packet time bytes.now))) }
     ensures judging { listener.new.judging ≡ listener.old.judging }
 {
     count_unset(index, bytes)?;
