@@ -193,8 +193,8 @@ fn push_two_rows(
 ) -> Result<(), AllocError>
     ensures { OnOk result (out.new.items ≡ out.old.items ++ text_if (is_timeless facing.now.pair first.now && is_timeless facing.now.pair second.now)
         (switch_text (facing_of facing.now) one other
-            (switch_span (facing_of facing.now) first.now second.now)
-            (switch_span (facing_of facing.now) second.now first.now))) }
+        (switch_span (facing_of facing.now) first.now second.now)
+        (switch_span (facing_of facing.now) second.now first.now))) }
 {
     if is_timeless(&facing.pair, first) && is_timeless(&facing.pair, second) {
         let there = switch_span(facing, first, second);

@@ -93,7 +93,7 @@ pub(crate) fn push_reasons(out: &mut Vec<u8>, facing: &Facing, row: &Row) -> Res
     ensures { OnOk result (out.new.items ≡ out.old.items
         ++ (text_if (nat_lt row.now.sending.last facing.now.plan.from) (ended_line row.now.sending.last)
         ++ nearest_text (facing_of facing.now) row.now (has_recv_id row.now.send_id facing.now.other.now.rows)
-            (fewest facing.now.pair row.now 7 facing.now.other.now.rows))) }
+        (fewest facing.now.pair row.now 7 facing.now.other.now.rows))) }
 {
     push_ended_if(out, row.sending().last, facing.plan.from)?;
     push_nearest_text(out, facing, row)

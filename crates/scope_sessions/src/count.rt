@@ -127,8 +127,8 @@ fn count_all<L: Ledger, I: Source, O: Sink>(
     requires index { index.old ≡ no_sessions }
     ensures { (isns : List GivenIsns) → Knows listener.old (listening_behind isns) → (given : List ℕ) ×
         Counts (series_behind (table_view document.now) listener.old.judging isns request) given
-            (I.side input.old) (I.side input.new) (O.side out.old) (O.side out.new)
-            (counted_with listener.new index.new result) }
+        (I.side input.old) (I.side input.new) (O.side out.old) (O.side out.new)
+        (counted_with listener.new index.new result) }
 {
     let mut since = None;
     'parts: loop {

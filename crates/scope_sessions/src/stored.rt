@@ -55,7 +55,7 @@ fn count_mended<L: Ledger>(
 ) -> Result<(), AllocError>
     ensures counts { (k : Listening) → Knows listener.old k → OnOk result
         (CountsJudged listener.old.judging k listener.new (with_unset (is_segment (reading bytes.now)) index.old)
-            index.new (Ok (stored_at packet time bytes.now))) }
+        index.new (Ok (stored_at packet time bytes.now))) }
     ensures judging { listener.new.judging ≡ listener.old.judging }
 {
     count_unset(index, bytes)?;
