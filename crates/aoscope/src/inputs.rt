@@ -6,7 +6,7 @@ use book_base::Bytes;
 use clap::ArgMatches;
 use command_report::Report;
 use key_table::{MOST_KEYS, Tables, read_tables};
-use scope_texts::read_duration;
+use scope_texts::{read_duration, read_instant};
 use std::fs::File;
 
 /// The most bytes of a file of initial sequence numbers.
@@ -26,6 +26,11 @@ pub(crate) fn required<'m>(
 /// The length of time that the word of this name says.
 pub(crate) fn duration(name: &'static str, text: &str) -> Result<u64, Halt> {
     read_duration(text.as_bytes()).ok_or(Halt::IsNo(name, "length of time"))
+}
+
+/// The time that the word of this name says.
+pub(crate) fn instant(name: &'static str, text: &str) -> Result<u64, Halt> {
+    read_instant(text.as_bytes()).ok_or(Halt::IsNo(name, "time"))
 }
 
 /// What reading gave; `long` is why the word ends where there were too many bytes.

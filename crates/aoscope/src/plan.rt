@@ -1,14 +1,13 @@
 //! The word `plan`: what is said of the planned rollovers of connections.
 use crate::arguments::{flag, key_file, required_word, with_svg};
 use crate::halt::{Halt, end};
-use crate::inputs::{duration, input, keys_at, required, write};
+use crate::inputs::{duration, input, instant, keys_at, required, write};
 use book_cmd_keys::Plan;
 use book_draw_plan::PlanForm;
 use clap::{ArgMatches, Command};
 use command_report::Report;
 use key_table::LATEST;
 use scope_plan::{KeyFile, answer_plan, read_key_file};
-use scope_texts::read_instant;
 use std::alloc::{AllocError, Global};
 
 const ABOUT: &str =
@@ -59,11 +58,6 @@ pub(crate) fn command<'a>(alloc: Global) -> Result<Command<'a>, AllocError> {
         .arg(required_word(alloc, "LAG", lag))?
         .arg(required_word(alloc, "FROM", from))?
         .arg(required_word(alloc, "TO", "The last time at which it is"))
-}
-
-/// The time that the word of this name says.
-fn instant(name: &'static str, text: &str) -> Result<u64, Halt> {
-    read_instant(text.as_bytes()).ok_or(Halt::IsNo(name, "time"))
 }
 
 /// By how much clocks may be behind and ahead, and between which times the plan is looked at: FROM isn't after TO,

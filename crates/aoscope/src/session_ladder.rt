@@ -1,20 +1,39 @@
 //! `sessions --draw`: a session of a capture as a ladder, in text or as a picture.
 use crate::arguments::option;
 use crate::halt::Halt;
-use crate::inputs::{isns, keys_at, required};
+use crate::inputs::{instant, isns, keys_at, required};
 use crate::sessions::laps;
 use ao_base::{ReadSource, WriteSink, read_decimal};
+use book_draw_session::DrawnTime;
 use book_draw_session_svg::LadderForm;
-use clap::{Arg, ArgMatches};
+use clap::{Arg, ArgMatches, Command};
 use key_table::read_tables;
-use scope_ladder::{LadderHalt, draw_session};
+use scope_ladder::{LadderHalt, LadderRequest, draw_session};
 use scope_sessions::read_given;
-use std::alloc::Global;
+use std::alloc::{AllocError, Global};
 
 /// The argument that asks for a session.
 pub(crate) fn argument<'a>(alloc: Global) -> Arg<'a> {
     let help = "Draw session N as a ladder, in place of the table";
     option(alloc, "draw", "N", help)
+}
+
+/// The word with an option of this name that limits what `--draw` draws.
+fn with_time<'a>(
+    word: Command<'a>,
+    alloc: Global,
+    name: &'static str,
+    help: &'static str,
+) -> Result<Command<'a>, AllocError> {
+    word.arg(option(alloc, name, "TIME", help).requires_arg("draw")?)
+}
+
+/// The word with the times between which a session is drawn.
+pub(crate) fn with_times<'a>(word: Command<'a>, alloc: Global) -> Result<Command<'a>, AllocError> {
+    let from = "Draw no segment that was seen before TIME";
+    let to = "Draw no segment that was seen after TIME";
+    let word = with_time(word, alloc, "from", from)?;
+    with_time(word, alloc, "to", to)
 }
 
 /// In which form a session is drawn.
@@ -23,6 +42,32 @@ fn form(matches: &ArgMatches<'_>) -> LadderForm {
         LadderForm::Picture
     } else {
         LadderForm::Text
+    }
+}
+
+/// The time that an option of this name says, or the one that stands for none.
+fn time_or(
+    matches: &ArgMatches<'_>,
+    option: &'static str,
+    name: &'static str,
+    none: u64,
+) -> Result<u64, Halt> {
+    match matches.get_str(option) {
+        None => Ok(none),
+        Some(text) => instant(name, text),
+    }
+}
+
+/// Within which time the words ask for segments: FROM isn't after TO.
+fn within(matches: &ArgMatches<'_>) -> Result<DrawnTime, Halt> {
+    let within = DrawnTime {
+        from: time_or(matches, "from", "FROM", 0)?,
+        to: time_or(matches, "to", "TO", u64::MAX)?,
+    };
+    if within.from > within.to {
+        Err(Halt::Usage("FROM is after TO"))
+    } else {
+        Ok(within)
     }
 }
 
@@ -38,32 +83,16 @@ fn halt_of(number: u64, halt: LadderHalt) -> Halt {
     }
 }
 
-/// Draws the session of this number of the capture on standard input, by the texts of a key file and of a file of
+/// Draws the session of the capture on standard input that is asked for, by the texts of a key file and of a file of
 /// initial sequence numbers.
-fn draw_by(
-    rt: &HostRuntime,
-    form: LadderForm,
-    laps: u32,
-    number: u64,
-    keys: &[u8],
-    isns: &[u8],
-) -> Result<(), Halt> {
+fn draw_by(rt: &HostRuntime, asked: LadderRequest, keys: &[u8], isns: &[u8]) -> Result<(), Halt> {
     let tables = read_tables(rt.alloc(), keys)?;
     let given = read_given(rt.alloc(), isns)?;
     let mut input = ReadSource::new(rt.stdin());
     let mut out = WriteSink::new(rt.stdout());
     let given = given.as_slice();
-    draw_session(
-        rt.alloc(),
-        form,
-        tables,
-        laps,
-        given,
-        number,
-        &mut input,
-        &mut out,
-    )
-    .map_err(|halt| halt_of(number, halt))
+    let done = draw_session(rt.alloc(), asked, tables, given, &mut input, &mut out);
+    done.map_err(|halt| halt_of(asked.number, halt))
 }
 
 /// Whether the words ask for a table too.
@@ -76,17 +105,14 @@ pub(crate) fn draw(rt: &HostRuntime, matches: &ArgMatches<'_>, text: &str) -> Re
     if asks_for_table(matches) {
         return Err(Halt::Usage("--draw goes with none of --json, --every and --all"));
     }
-    let number = read_decimal(text.as_bytes()).ok_or(Halt::IsNo("N", "number of a session"))?;
-    let laps = laps(matches)?;
+    let asked = LadderRequest {
+        form: form(matches),
+        laps: laps(matches)?,
+        number: read_decimal(text.as_bytes()).ok_or(Halt::IsNo("N", "number of a session"))?,
+        within: within(matches)?,
+    };
     let keys = keys_at(rt, required(matches, "KEYS")?)?;
     let isns = isns(rt, matches)?;
-    draw_by(
-        rt,
-        form(matches),
-        laps,
-        number,
-        keys.as_slice(),
-        isns.as_slice(),
-    )?;
+    draw_by(rt, asked, keys.as_slice(), isns.as_slice())?;
     Ok(false)
 }

@@ -20,6 +20,7 @@ pub(crate) fn command<'a>(alloc: Global) -> Result<Command<'a>, AllocError> {
         .about(ABOUT)
         .after_help(AFTER)
         .arg(session_ladder::argument(alloc))?;
+    let word = session_ladder::with_times(word, alloc)?;
     with_svg(word, alloc, "Draw it as a picture in SVG")?
         .arg(key_file(alloc))?
         .arg(isns_file(alloc))?

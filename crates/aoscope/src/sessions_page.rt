@@ -52,6 +52,8 @@ KeyID and a title with its time to the nanosecond, its sequence number and its a
 dashes is of a segment that isn't verified, and one of short dashes of one that is unconfirmed. It is written when \
 all is read, and its segments are kept until then.
 
+With --from TIME, --to TIME or both only those segments of session N are drawn that were seen from the one time to the other, both with them, as 2026-12-31T23:55:00Z or 20261231235500Z; all segments of the capture are judged. Where segments are left out, a last line says how many were seen before TIME, and one how many after it. Status 0: it is drawn, also where all its segments are left out; 2: also where the first time is after the second.
+
 Status 0: all segments of sessions that aren't foreign are verified; 1: one isn't, there is no such session, or a \
 packet that can't be read may be a segment; 3: keys; 4: also FILE; the others as above.
 
@@ -63,4 +65,5 @@ packet that can't be read may be a segment; 3: keys; 4: also FILE; the others as
     aoscope sessions KEYS --json < CAPTURE
     aoscope sessions KEYS --draw 1 < CAPTURE
     aoscope sessions KEYS --draw 1 --svg < CAPTURE > PICTURE.svg
+    aoscope sessions KEYS --draw 1 --from 2026-12-31T23:55:00Z --to 2027-01-01T00:05:00Z < CAPTURE
     tcpdump -i IFACE -s 0 -U -w - 'tcp port 179' | aoscope sessions KEYS --every 10s";

@@ -1,5 +1,7 @@
 -- That lines stand for all segments.
-use Rattle.std.proofs.Common.{◌≡◌, ◌≤◌, ℕ, ◌+◌, ◌==◌, Bool, true, false, List, [], ◌∷◌, ◌++◌, length, min, Option, Some, None, refl, sym, ap, ◌∙◌, arith, if◌then◌else◌}
+use Rattle.std.proofs.Common.{◌≡◌, ◌≤◌, ℕ, suc, ◌+◌, ◌==◌, Bool, true, false, List, [], ◌∷◌, ◌++◌, length, map, min, Option, Some, None, refl, sym, ap, ◌∙◌, arith, cond, if◌then◌else◌}
+use Rattle.std.specs.Prelude.{◌/◌, ◌&&◌, nat_lt, not}
+use Rattle.std.specs.List.{filter}
 use Rattle.std.proofs.lemmas.Bool.Decides.{nat_tests}
 use Rattle.book_base.specs.declared.end.End.{End}
 use Rattle.book_base.specs.declared.end.End.TheVariants.{A, B}
@@ -9,8 +11,13 @@ use Rattle.book_draw_session.specs.declared.fold.SessionLine.{SessionLine}
 use Rattle.book_draw_session.specs.declared.fold.SessionLine.TheVariants.{Whole, More}
 use Rattle.book_draw_session.specs.declared.rung.SessionEnds.{SessionEnds}
 use Rattle.book_draw_session.specs.declared.rung.SessionRung.{SessionRung}
-use Rattle.book_draw_session.specs.Folds.{after_drawn, fold_lines, fold_start, fold_step, folds_with, kinds_to, line_count, lines_count, folded_lines, counted_on, run_lines, run_with, folded_session}
+use Rattle.book_draw_session.specs.declared.span.DrawnTime.{DrawnTime}
+use Rattle.book_draw_session.specs.declared.span.LeftOut.{LeftOut}
+use Rattle.book_draw_session.specs.declared.span.LeftRun.{LeftRun}
+use Rattle.book_draw_session.specs.declared.span.LeftSide.TheVariants.{Before, After}
+use Rattle.book_draw_session.specs.Folds.{after_drawn, fold_lines, fold_start, fold_step, folds_with, kinds_to, line_count, lines_count, folded_lines, line_of_left, lines_within, run_lines, run_with, folded_session}
 use Rattle.book_draw_session.specs.Ladders.{reached_end}
+use Rattle.book_draw_session.specs.Times.{is_early, is_late, left_at, left_out, left_runs, rungs_within}
 
 abbrev run_count : Option RungRun → ℕ
 run_count None = 0
@@ -66,9 +73,51 @@ all_from e f (r ∷ rs) room =
     let split = count_more (fold_lines at f r) (folded_lines e (fold_step at f r) rs) in
     omega arith
 
-pub all_told : (e : SessionEnds) (rs : List SessionRung) → length rs ≤ 18446744073709551615 → lines_count (folded_session e rs) ≡ length rs
-all_told e rs room =
+drawn_told : (e : SessionEnds) (rs : List SessionRung) → length rs ≤ 18446744073709551615 → lines_count (folded_session e rs) ≡ length rs
+drawn_told e rs room =
     let from : 0 + length rs ≤ 18446744073709551615 = omega arith in
     let all : lines_count (folded_lines e fold_start rs) ≡ 0 + length rs = all_from e fold_start rs from in
     let sum : lines_count (folded_lines e fold_start rs) ≡ length rs = omega arith in
     sum
+
+-- ---- those that are left out
+
+left_more : (xs ys : List LeftRun) → lines_count (map line_of_left (xs ++ ys)) ≡ lines_count (map line_of_left xs) + lines_count (map line_of_left ys)
+left_more [] ys = let none : lines_count (map line_of_left ys) ≡ 0 + lines_count (map line_of_left ys) = omega arith in none
+left_more (x ∷ xs) ys =
+    let more = left_more xs ys in
+    let sum : x.count + lines_count (map line_of_left (xs ++ ys)) ≡ x.count + lines_count (map line_of_left xs) + lines_count (map line_of_left ys) = omega arith in
+    sum
+
+left_by : (b : Bool) (m : LeftRun) → (m.count == 0) ≡ b → lines_count (map line_of_left (if b then [] else m ∷ [])) ≡ m.count
+left_by true m is = let none : m.count ≡ 0 = grind (arith, nat_tests) in let sum : 0 ≡ m.count = omega arith in sum
+left_by false m is = let sum : m.count + 0 ≡ m.count = omega arith in sum
+
+left_told : (t : DrawnTime) (n : LeftOut) → lines_count (map line_of_left (left_runs t n)) ≡ n.before + n.after
+left_told t n =
+    let before : lines_count (map line_of_left (left_at Before n.before t.from)) ≡ n.before = left_by (n.before == 0) (record { side = Before; count = n.before; time = t.from }) refl in
+    let after : lines_count (map line_of_left (left_at After n.after t.to)) ≡ n.after = left_by (n.after == 0) (record { side = After; count = n.after; time = t.to }) refl in
+    let both = left_more (left_at Before n.before t.from) (left_at After n.after t.to) in
+    omega arith
+
+-- each segment is drawn, or left out on one side
+one_of : (early past : Bool) (r : SessionRung) (us es ls : List SessionRung)
+    → length (cond (not early && not (not early && past)) (r ∷ us) us) + (length (cond early (r ∷ es) es) + length (cond (not early && past) (r ∷ ls) ls)) ≡ suc (length us + (length es + length ls))
+one_of true past r us es ls = let sum : length us + (suc (length es) + length ls) ≡ suc (length us + (length es + length ls)) = omega arith in sum
+one_of false true r us es ls = let sum : length us + (length es + suc (length ls)) ≡ suc (length us + (length es + length ls)) = omega arith in sum
+one_of false false r us es ls = let sum : suc (length us) + (length es + length ls) ≡ suc (length us + (length es + length ls)) = omega arith in sum
+
+thirds : (t : DrawnTime) (rs : List SessionRung) → length (rungs_within t rs) + (length (filter (is_early t) rs) + length (filter (is_late t) rs)) ≡ length rs
+thirds t [] = refl
+thirds t (r ∷ rs) =
+    one_of (is_early t r) (nat_lt t.to (r.time / 1000000000)) r (rungs_within t rs) (filter (is_early t) rs) (filter (is_late t) rs)
+    ∙ ap suc (thirds t rs)
+
+pub all_told : (t : DrawnTime) (e : SessionEnds) (rs : List SessionRung) → length rs ≤ 18446744073709551615 → lines_count (lines_within t e rs) ≡ length rs
+all_told t e rs room =
+    let all = thirds t rs in
+    let low : length (rungs_within t rs) ≤ 18446744073709551615 = omega arith in
+    let drawn = drawn_told e (rungs_within t rs) low in
+    let left = left_told t (left_out t rs) in
+    let split = count_more (folded_session e (rungs_within t rs)) (map line_of_left (left_runs t (left_out t rs))) in
+    omega arith

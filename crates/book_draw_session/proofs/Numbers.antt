@@ -1,5 +1,5 @@
 -- What a table of sessions says of one segment more.
-use Rattle.std.proofs.Common.{◌≡◌, ℕ, suc, ◌+◌, ◌==◌, ◌&&◌, ◌||◌, Bool, true, false, List, [], ◌∷◌, ◌++◌, length, Option, Some, None, refl, sym, ap, ◌∙◌, arith, cond, if◌then◌else◌}
+use Rattle.std.proofs.Common.{◌≡◌, ℕ, ◌+◌, ◌==◌, ◌&&◌, Bool, true, false, List, [], ◌∷◌, Option, Some, None, refl, sym, ap, ◌∙◌, arith, cond, if◌then◌else◌}
 use Rattle.std.specs.Prelude.{option_map}
 use Rattle.std.specs.List.{find}
 use Rattle.std.specs.Option.{option_or}
@@ -9,12 +9,12 @@ use Rattle.book_segments.specs.Sockets.{same_socket}
 use Rattle.book_sessions.specs.declared.uses.KeyUse.{KeyUse}
 use Rattle.book_sessions.specs.declared.uses.SeenSegment.{SeenSegment}
 use Rattle.book_sessions.specs.declared.uses.Signs.{Signs}
-use Rattle.book_sessions.specs.Sessions.{carries_ids_of, first_use, goes_as, is_session_of, is_use_of, passed_as, same_outcome, session_of, used_again, with_use}
+use Rattle.book_sessions.specs.Sessions.{carries_ids_of, goes_as, is_session_of, is_use_of, passed_as, same_outcome, session_of, used_again, with_use}
 use Rattle.book_sessions.specs.SessionTexts.{is_of_session}
 use Rattle.book_draw_session.specs.declared.rung.SessionEnds.{SessionEnds}
 use Rattle.book_draw_session.specs.declared.rung.SessionRung.{SessionRung}
-use Rattle.book_draw_session.specs.Rungs.{and_session, counted_in, ends_of, ends_of_use, same_ends}
-use Rattle.book_draw_session.proofs.Places.{number_more, number_now, number_of, place_of}
+use Rattle.book_draw_session.specs.Rungs.{and_session, counted_in, ends_of_use, same_ends}
+use Rattle.book_draw_session.proofs.Places.{number_more, number_of}
 
 -- the sockets of a segment that was seen
 abbrev pub seen_ends : SeenSegment → SessionEnds

@@ -10,7 +10,7 @@ use Rattle.book_segments.proofs.SocketLaws.{same_socket-refl, same_socket_is}
 use Rattle.book_segments.specs.Sockets.{same_socket}
 use Rattle.book_draw_session.specs.declared.rung.SessionEnds.{SessionEnds}
 use Rattle.book_draw_session.specs.declared.rung.SessionRung.{SessionRung}
-use Rattle.book_draw_session.specs.Rungs.{and_session, ends_of, is_between, same_ends, session_at, sessions_after, sessions_drawn}
+use Rattle.book_draw_session.specs.Rungs.{and_session, ends_of, same_ends, session_at}
 
 -- ---- the same two sockets
 

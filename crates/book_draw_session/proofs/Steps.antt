@@ -5,10 +5,13 @@ use Rattle.std.specs.List.{filter, flat_map}
 use Rattle.std.specs.Option.{option_or}
 use Rattle.std.proofs.lemmas.Grind.{flat_map-append}
 use Rattle.std.proofs.lemmas.List.{append-nil}
+use Rattle.std.proofs.lemmas.List.Elements.{filter-append}
 use Rattle.book_draw_session.specs.declared.rung.SessionEnds.{SessionEnds}
 use Rattle.book_draw_session.specs.declared.rung.SessionRung.{SessionRung}
+use Rattle.book_draw_session.specs.declared.span.DrawnTime.{DrawnTime}
 use Rattle.book_draw_session.specs.Rungs.{and_session, ends_of, is_between, same_ends, session_at, sessions_after, sessions_drawn}
 use Rattle.book_draw_session.specs.Ladders.{ends_text, ladder_between, session_rung_text}
+use Rattle.book_draw_session.specs.Times.{is_timely, rungs_within}
 use Rattle.book_draw_session.proofs.Places.{like_place, number_now, place, place_of, session_more}
 use Rattle.book_draw_session.proofs.Table.{Placed, placed_last, placed_more, some_number}
 
@@ -48,16 +51,23 @@ pub filter_last : (e : SessionEnds) (rs : List SessionRung) (r : SessionRung) �
 filter_last e [] r = refl
 filter_last e (x ∷ rs) r = filter_step (is_between e x) x (filter (is_between e) (rs ++ r ∷ [])) (filter (is_between e) rs) _ (filter_last e rs r)
 
-one_text : (b : Bool) (e : SessionEnds) (r : SessionRung) → flat_map (session_rung_text e) (if b then r ∷ [] else []) ≡ (if b then session_rung_text e r else [])
-one_text true e r = append-nil (session_rung_text e r)
-one_text false e r = refl
+-- the text of a segment between these ends, where it was seen within a time
+abbrev pub timely_text : DrawnTime → SessionEnds → SessionRung → List ℕ
+timely_text t e r = flat_map (session_rung_text e) (rungs_within t (r ∷ []))
+
+one_text : (b : Bool) (t : DrawnTime) (e : SessionEnds) (r : SessionRung) → flat_map (session_rung_text e) (rungs_within t (if b then r ∷ [] else [])) ≡ (if b then timely_text t e r else [])
+one_text true t e r = refl
+one_text false t e r = refl
 
 -- the ladder between these ends
-pub text_last : (e : SessionEnds) (rs : List SessionRung) (r : SessionRung) → ladder_between (Some e) (rs ++ r ∷ []) ≡ ladder_between (Some e) rs ++ (if is_between e r then session_rung_text e r else [])
-text_last e rs r =
-    ap (λ xs. ends_text e ++ flat_map (session_rung_text e) xs) (filter_last e rs r)
-    ∙ (ap (λ (text : List ℕ). ends_text e ++ text) (flat_map-append (session_rung_text e) (filter (is_between e) rs) (if is_between e r then r ∷ [] else []) ∙ ap (λ (text : List ℕ). flat_map (session_rung_text e) (filter (is_between e) rs) ++ text) (one_text (is_between e r) e r))
-    ∙ sym (append_assoc (ends_text e) (flat_map (session_rung_text e) (filter (is_between e) rs)) (if is_between e r then session_rung_text e r else [])))
+pub text_last : (t : DrawnTime) (e : SessionEnds) (rs : List SessionRung) (r : SessionRung) → ladder_between t (Some e) (rs ++ r ∷ []) ≡ ladder_between t (Some e) rs ++ (if is_between e r then timely_text t e r else [])
+text_last t e rs r =
+    let one : List SessionRung = if is_between e r then r ∷ [] else [] in
+    let front = rungs_within t (filter (is_between e) rs) in
+    ap (λ xs. ends_text e ++ flat_map (session_rung_text e) (rungs_within t xs)) (filter_last e rs r)
+    ∙ (ap (λ xs. ends_text e ++ flat_map (session_rung_text e) xs) (filter-append (is_timely t) (filter (is_between e) rs) one)
+    ∙ (ap (λ (text : List ℕ). ends_text e ++ text) (flat_map-append (session_rung_text e) front (rungs_within t one) ∙ ap (λ (text : List ℕ). flat_map (session_rung_text e) front ++ text) (one_text (is_between e r) t e r))
+    ∙ sym (append_assoc (ends_text e) (flat_map (session_rung_text e) front) (if is_between e r then timely_text t e r else []))))
 
 -- the first segment of a session
 pub rungs_first : (rs : List SessionRung) (r : SessionRung) → place (ends_of r) (sessions_drawn rs) ≡ None → is_between (ends_of r) r ≡ true → filter (is_between (ends_of r)) (rs ++ r ∷ []) ≡ r ∷ []
@@ -66,9 +76,9 @@ rungs_first rs r none alike =
     ∙ (ap (λ xs. xs ++ (if is_between (ends_of r) r then r ∷ [] else [])) (none_between (sessions_drawn rs) r rs none (after_placed [] [] rs tt))
     ∙ ap (λ (b : Bool). if b then r ∷ [] else []) alike)
 
-pub text_first : (rs : List SessionRung) (r : SessionRung) → place (ends_of r) (sessions_drawn rs) ≡ None → is_between (ends_of r) r ≡ true → ladder_between (Some (ends_of r)) (rs ++ r ∷ []) ≡ ends_text (ends_of r) ++ session_rung_text (ends_of r) r
-text_first rs r none alike =
-    text_last (ends_of r) rs r
-    ∙ (ap (λ xs. (ends_text (ends_of r) ++ flat_map (session_rung_text (ends_of r)) xs) ++ (if is_between (ends_of r) r then session_rung_text (ends_of r) r else [])) (none_between (sessions_drawn rs) r rs none (after_placed [] [] rs tt))
-    ∙ (ap (λ xs. xs ++ (if is_between (ends_of r) r then session_rung_text (ends_of r) r else [])) (append-nil (ends_text (ends_of r)))
-    ∙ ap (λ (b : Bool). ends_text (ends_of r) ++ (if b then session_rung_text (ends_of r) r else [])) alike))
+pub text_first : (t : DrawnTime) (rs : List SessionRung) (r : SessionRung) → place (ends_of r) (sessions_drawn rs) ≡ None → is_between (ends_of r) r ≡ true → ladder_between t (Some (ends_of r)) (rs ++ r ∷ []) ≡ ends_text (ends_of r) ++ timely_text t (ends_of r) r
+text_first t rs r none alike =
+    text_last t (ends_of r) rs r
+    ∙ (ap (λ xs. (ends_text (ends_of r) ++ flat_map (session_rung_text (ends_of r)) (rungs_within t xs)) ++ (if is_between (ends_of r) r then timely_text t (ends_of r) r else [])) (none_between (sessions_drawn rs) r rs none (after_placed [] [] rs tt))
+    ∙ (ap (λ xs. xs ++ (if is_between (ends_of r) r then timely_text t (ends_of r) r else [])) (append-nil (ends_text (ends_of r)))
+    ∙ ap (λ (b : Bool). ends_text (ends_of r) ++ (if b then timely_text t (ends_of r) r else [])) alike))

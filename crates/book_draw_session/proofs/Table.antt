@@ -1,5 +1,5 @@
 -- That the rungs of a session are as many as its table counts.
-use Rattle.std.proofs.Common.{◌≡◌, ℕ, zero, suc, ◌+◌, ◌/◌, ◌==◌, ◌||◌, Bool, true, false, List, [], ◌∷◌, ◌++◌, length, Option, Some, None, Result, Ok, Err, refl, sym, subst, ap, ◌∙◌, arith, append_assoc, cond, if◌then◌else◌}
+use Rattle.std.proofs.Common.{◌≡◌, ℕ, zero, suc, ◌+◌, ◌/◌, ◌==◌, Bool, true, false, List, [], ◌∷◌, ◌++◌, length, Option, Some, None, Result, Ok, Err, refl, sym, subst, ap, ◌∙◌, arith, append_assoc, cond, if◌then◌else◌}
 use Rattle.std.specs.Prelude.{is_some, option_map, slice_get}
 use Rattle.std.specs.List.{filter, find, list_any}
 use Rattle.std.specs.Option.{option_or, unwrap_or}
@@ -14,8 +14,6 @@ use Rattle.book_captures.specs.Captures.{CapturePacket, frame_datagram}
 use Rattle.book_cmd_check.specs.declared.given.GivenIsns.{GivenIsns}
 use Rattle.book_scope.specs.PacketLines.{judged_bytes}
 use Rattle.book_sessions.specs.AsSent.{mended}
-use Rattle.book_sessions.specs.declared.outcome.PassedOver.{PassedOver}
-use Rattle.book_sessions.specs.declared.outcome.PassedOver.TheVariants as passed
 use Rattle.book_sessions.specs.declared.outcome.SegmentOutcome.{SegmentOutcome}
 use Rattle.book_sessions.specs.declared.outcome.SegmentOutcome.TheVariants.{CutOff}
 use Rattle.book_sessions.specs.CutOff.{cut_segment}
@@ -30,7 +28,7 @@ use Rattle.book_draw_session.specs.declared.rung.SessionRung.{SessionRung}
 use Rattle.book_draw_session.specs.Rungs.{and_session, counted_in, drawn_by, ends_of, ends_of_use, is_between, rung_before, rung_cut, rung_heard, rung_said, rungs_between, rungs_in, rungs_of_session, same_ends, seen_at, seen_of, session_at, session_rung, session_rungs_from, sessions_after, sessions_drawn}
 use Rattle.book_draw_session.proofs.Heard.{read_uncut}
 use Rattle.book_draw_session.proofs.Places.{any_place, known_more, known_still, like_ends, many_more, number_more, number_now, number_of, one_less, other_zero, place, place_more, place_of, session_more, zero_other}
-use Rattle.book_draw_session.proofs.Numbers.{Agree, IsOf, agree_more, agree_used, all_of, count_used, ends_found, ends_in, ends_used, number_in, number_used, seen_ends, session_number}
+use Rattle.book_draw_session.proofs.Numbers.{Agree, agree_more, agree_used, all_of, count_used, ends_found, ends_in, ends_used, number_in, number_used, session_number}
 
 -- ---- how many segments have this number
 

@@ -1,7 +1,7 @@
 -- Runs of segments that say the same, as keepalives and their acknowledgements do: one line stands
--- for such a run. Our own choice of them. Its top is `folded_session`.
-use Rattle.std.specs.Prelude.{ℕ, ◌+◌, ◌-◌, ◌==◌, min, not, ◌&&◌, ◌||◌, Bool, true, false}
-use Rattle.std.specs.Prelude.{List, [], ◌∷◌, ◌++◌, codes, decimal, length, replicate}
+-- for such a run. Our own choice of them. Its tops are `folded_session` and `lines_within`.
+use Rattle.std.specs.Prelude.{ℕ, ◌+◌, ◌==◌, min, not, ◌&&◌, ◌||◌, Bool, true, false}
+use Rattle.std.specs.Prelude.{List, [], ◌∷◌, ◌++◌, codes, decimal, map}
 use Rattle.std.specs.Prelude.{Option, Some, None, option_map, if◌then◌else◌}
 use Rattle.std.specs.Str.{bytes_eq}
 use Rattle.book_base.specs.declared.end.End.{End}
@@ -9,17 +9,18 @@ use Rattle.book_base.specs.declared.end.End.TheVariants.{A, B}
 use Rattle.book_segments.specs.Segments.{FIN, SYN, RST}
 use Rattle.book_lines.specs.Texts.{spaced}
 use Rattle.book_sessions.specs.SessionTexts.{id_text}
-use Rattle.book_draw.specs.Ladders.{ladder_line}
 use Rattle.book_draw_session.specs.declared.fold.Folding.{Folding}
 use Rattle.book_draw_session.specs.declared.fold.RungKinds.{RungKinds}
 use Rattle.book_draw_session.specs.declared.fold.RungRun.{RungRun}
 use Rattle.book_draw_session.specs.declared.fold.SessionLine.{SessionLine}
-use Rattle.book_draw_session.specs.declared.fold.SessionLine.TheVariants.{Whole, More}
+use Rattle.book_draw_session.specs.declared.fold.SessionLine.TheVariants.{Whole, More, Left}
 use Rattle.book_draw_session.specs.declared.rung.SessionEnds.{SessionEnds}
 use Rattle.book_draw_session.specs.declared.rung.SessionRung.{SessionRung}
-use Rattle.book_draw_session.specs.Ladders.{numbered_line, reached_end, rung_label, said_texts}
-use Rattle.book_draw_session.specs.Ladders.{session_rung_text, time_margin}
+use Rattle.book_draw_session.specs.declared.span.DrawnTime.{DrawnTime}
+use Rattle.book_draw_session.specs.declared.span.LeftRun.{LeftRun}
+use Rattle.book_draw_session.specs.Ladders.{reached_end, rung_label, said_texts}
 use Rattle.book_draw_session.specs.Rungs.{has_flag}
+use Rattle.book_draw_session.specs.Times.{left_out, left_runs, rungs_within}
 
 -- what a segment says: what is written on its arrow, and what is said of it (own)
 abbrev pub rung_words : SessionRung → List ℕ
@@ -126,10 +127,24 @@ folded_lines e f (r ∷ rs) =
 abbrev pub folded_session : SessionEnds → List SessionRung → List SessionLine
 folded_session e rs = folded_lines e fold_start rs
 
+-- the line of segments that are left out (own)
+abbrev pub line_of_left : LeftRun → SessionLine
+line_of_left m = Left m
+
+-- the lines of segments that are drawn between these ends, and behind them those of others that are
+-- left out (own)
+abbrev pub lines_and_left : SessionEnds → List SessionRung → List LeftRun → List SessionLine
+lines_and_left e rs left = folded_session e rs ++ map line_of_left left
+
+-- the lines of segments between these ends of which those within a time are drawn (own)
+abbrev pub lines_within : DrawnTime → SessionEnds → List SessionRung → List SessionLine
+lines_within t e rs = lines_and_left e (rungs_within t rs) (left_runs t (left_out t rs))
+
 -- how many segments a line stands for (own)
 abbrev pub line_count : SessionLine → ℕ
 line_count (Whole r) = 1
 line_count (More m) = m.count
+line_count (Left m) = m.count
 
 -- how many segments lines stand for (own)
 abbrev pub lines_count : List SessionLine → ℕ

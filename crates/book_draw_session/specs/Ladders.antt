@@ -1,7 +1,7 @@
 -- The text of a session's ladder: a line for each segment, of at most 100 columns where the number
--- of its packet has at most six digits, with its two ends as two upright strokes. Its top is
--- `session_ladder`.
-use Rattle.std.specs.Prelude.{ℕ, ◌-◌, ◌/◌, ◌==◌, nat_lt, Bool, List, [], ◌∷◌, ◌++◌, codes, decimal}
+-- of its packet has at most six digits, with its two ends as two upright strokes. Its tops are
+-- `session_ladder` and `left_text`.
+use Rattle.std.specs.Prelude.{ℕ, ◌-◌, ◌/◌, ◌==◌, nat_lt, List, [], ◌∷◌, ◌++◌, codes, decimal}
 use Rattle.std.specs.Prelude.{length, replicate, Option, Some, None, option_map, if◌then◌else◌}
 use Rattle.std.specs.List.{flat_map}
 use Rattle.book_base.specs.declared.address.Socket.{Socket}
@@ -17,12 +17,15 @@ use Rattle.book_scope_texts.specs.Instants.{instant_text}
 use Rattle.book_draw.specs.Ladders.{Pen, arrowhead, blank_way, length_label, line_at, way_to}
 use Rattle.book_sessions.specs.declared.outcome.SegmentOutcome.{SegmentOutcome}
 use Rattle.book_sessions.specs.declared.outcome.SegmentOutcome.TheVariants as outcome
-use Rattle.book_sessions.specs.declared.uses.KeyIds.{KeyIds}
 use Rattle.book_sessions.specs.OutcomeTexts.{outcome_text}
 use Rattle.book_sessions.specs.SessionTexts.{id_text}
 use Rattle.book_draw_session.specs.declared.rung.SessionEnds.{SessionEnds}
 use Rattle.book_draw_session.specs.declared.rung.SessionRung.{SessionRung}
+use Rattle.book_draw_session.specs.declared.span.DrawnTime.{DrawnTime}
+use Rattle.book_draw_session.specs.declared.span.LeftOut.{LeftOut}
+use Rattle.book_draw_session.specs.declared.span.LeftRun.{LeftRun}
 use Rattle.book_draw_session.specs.Rungs.{has_flag, rungs_between, session_at, sessions_drawn}
+use Rattle.book_draw_session.specs.Times.{left_runs, left_words, rungs_within}
 
 -- the letter of a flag, where it is set (own)
 abbrev pub flag_letter : (flag letter flags : ℕ) → List ℕ
@@ -111,12 +114,21 @@ names_text left right =
 unfoldable pub ends_text : SessionEnds → List ℕ
 ends_text e = names_text (end_name e.left) (end_name e.right)
 
--- the ladder of the segments between these ends; there is none without ends (own)
-abbrev pub ladder_between : Option SessionEnds → List SessionRung → List ℕ
-ladder_between None rs = []
-ladder_between (Some e) rs =
-    ends_text e ++ flat_map (session_rung_text e) (rungs_between (Some e) rs)
+-- the ladder of the segments between these ends that were seen within a time; there is none without
+-- ends (own)
+abbrev pub ladder_between : DrawnTime → Option SessionEnds → List SessionRung → List ℕ
+ladder_between t None rs = []
+ladder_between t (Some e) rs =
+    ends_text e ++ flat_map (session_rung_text e) (rungs_within t (rungs_between (Some e) rs))
 
--- the ladder of the session of this number (own)
-abbrev pub session_ladder : (number : ℕ) → List SessionRung → List ℕ
-session_ladder number rs = ladder_between (session_at number (sessions_drawn rs)) rs
+-- the ladder of the session of this number within a time (own)
+abbrev pub session_ladder : DrawnTime → (number : ℕ) → List SessionRung → List ℕ
+session_ladder t number rs = ladder_between t (session_at number (sessions_drawn rs)) rs
+
+-- the line of segments that are left out (own)
+abbrev pub left_line : LeftRun → List ℕ
+left_line m = left_words m ++ 10 ∷ []
+
+-- the lines of the segments that a time leaves out, which stand behind the ladder (own)
+abbrev pub left_text : DrawnTime → LeftOut → List ℕ
+left_text t n = flat_map left_line (left_runs t n)

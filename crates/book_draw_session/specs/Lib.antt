@@ -1,3 +1,4 @@
 pub mod Folds
 pub mod Ladders
 pub mod Rungs
+pub mod Times

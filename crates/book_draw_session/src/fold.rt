@@ -1,5 +1,6 @@
 //! Runs of segments that say the same, and the lines that are drawn of a session.
 use crate::rung::SessionRung;
+use crate::span::LeftRun;
 
 /// The last two segments of a direction that were drawn; none before the one that was drawn last, where it
 /// names other keys, or something else is said of it.
@@ -36,4 +37,6 @@ pub enum SessionLine {
     Whole(SessionRung),
     /// It tells how many segments say the same as those above.
     More(RungRun),
+    /// It tells how many segments are left out.
+    Left(LeftRun),
 }

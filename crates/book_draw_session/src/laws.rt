@@ -10,7 +10,8 @@ ghost use Rattle.book_sessions.specs.Sessions.{all_stored, sessions_of};
 ghost use Rattle.book_sessions.specs.SessionTexts.{is_of_session};
 ghost use Rattle.book_draw_session.specs.declared.rung.SessionEnds.{SessionEnds as Ends};
 ghost use Rattle.book_draw_session.specs.declared.rung.SessionRung.{SessionRung as Segment};
-ghost use Rattle.book_draw_session.specs.Folds.{lines_count, folded_session};
+ghost use Rattle.book_draw_session.specs.declared.span.DrawnTime.{DrawnTime as Time};
+ghost use Rattle.book_draw_session.specs.Folds.{lines_count, lines_within};
 ghost use Rattle.book_draw_session.specs.Rungs.{counted_in, ends_of_use, rungs_in, rungs_of_session, seen_of, session_at, sessions_drawn};
 
 /// The rungs of a capture are its segments, in their order, each with its ids and with what comes of it.
@@ -31,7 +32,8 @@ pub fn rungs_are_those_of_the_table()
         → length (rungs_of_session number (rungs_in j given packets)) ≡ counted_in number (sessions_of j given packets).uses }
 {}
 
-/// The lines of segments stand for all of them: each line for one, or for as many as it says.
+/// The lines of segments stand for all of them, whatever time is drawn: each line for one, or for as many as it
+/// says.
 pub fn lines_stand_for_all()
-    ensures { (e : Ends) (rs : List Segment) → length rs ≤ 18446744073709551615 → lines_count (folded_session e rs) ≡ length rs }
+    ensures { (t : Time) (e : Ends) (rs : List Segment) → length rs ≤ 18446744073709551615 → lines_count (lines_within t e rs) ≡ length rs }
 {}

@@ -6,9 +6,11 @@
 mod fold;
 mod laws;
 mod rung;
+mod span;
 
 pub use fold::{Folding, RungKinds, RungRun, SessionLine};
 pub use laws::{
     lines_stand_for_all, rungs_are_those_of_the_segments, rungs_are_those_of_the_table,
 };
 pub use rung::{SessionEnds, SessionRung};
+pub use span::{DrawnTime, LeftOut, LeftRun, LeftSide};

@@ -4,10 +4,12 @@ use Rattle.std.specs.Prelude.{codes, flat_map, option_map, slice_get}
 use Rattle.book_draw_session.specs.declared.fold.SessionLine.{SessionLine}
 use Rattle.book_draw_session.specs.declared.rung.SessionEnds.{SessionEnds}
 use Rattle.book_draw_session.specs.declared.rung.SessionRung.{SessionRung}
-use Rattle.book_draw_session.specs.Folds.{folded_session}
+use Rattle.book_draw_session.specs.declared.span.DrawnTime.{DrawnTime}
+use Rattle.book_draw_session.specs.Folds.{lines_within}
 use Rattle.book_draw_session.specs.Ladders.{ends_text, ladder_between, session_rung_text, session_ladder}
 use Rattle.book_draw_session.specs.Rungs.{rungs_between, rungs_of_session, session_at, sessions_drawn}
-use Rattle.book_draw_session_svg.specs.SessionPictures.{keys_drawn, line_in_row, line_of_row, session_line_svg, session_lines_picture, picture_between, rows_from, session_front_svg, session_rows, session_svg}
+use Rattle.book_draw_session.specs.Times.{rungs_within}
+use Rattle.book_draw_session_svg.specs.SessionPictures.{keys_drawn, line_in_row, line_of_row, session_line_svg, session_lines_picture, picture_within, rows_from, session_front_svg, session_rows, session_svg}
 
 lines_back : (row : ℕ) (ls : List SessionLine) → map line_of_row (rows_from row ls) ≡ ls
 lines_back row [] = refl
@@ -25,13 +27,13 @@ row_from row (l ∷ ls) (suc i) = let same : row + suc i ≡ row + 1 + i = omega
 pub each_row : (ls : List SessionLine) (i : ℕ) → slice_get (session_rows ls) i ≡ option_map (line_in_row i) (slice_get ls i)
 each_row ls i = let same : 0 + i ≡ i = omega arith in rw same at (row_from 0 ls i)
 
-pub whole_picture : (number : ℕ) (rs : List SessionRung) (e : SessionEnds) → session_at number (sessions_drawn rs) ≡ Some e
-    → session_svg number rs ≡ session_front_svg e (keys_drawn (rungs_of_session number rs)) (length (folded_session e (rungs_of_session number rs)))
-    ++ (flat_map (session_line_svg e) (session_rows (folded_session e (rungs_of_session number rs))) ++ codes "</svg>\n")
+pub whole_picture : (t : DrawnTime) (number : ℕ) (rs : List SessionRung) (e : SessionEnds) → session_at number (sessions_drawn rs) ≡ Some e
+    → session_svg t number rs ≡ session_front_svg e (keys_drawn (rungs_within t (rungs_of_session number rs))) (length (lines_within t e (rungs_of_session number rs)))
+    ++ (flat_map (session_line_svg e) (session_rows (lines_within t e (rungs_of_session number rs))) ++ codes "</svg>\n")
 unfolding session_lines_picture
-whole_picture number rs e is = ap (λ o. picture_between o (rungs_of_session number rs)) is
+whole_picture t number rs e is = ap (λ o. picture_within t o (rungs_of_session number rs)) is
 
-pub whole_text : (number : ℕ) (rs : List SessionRung) (e : SessionEnds) → session_at number (sessions_drawn rs) ≡ Some e
-    → session_ladder number rs ≡ ends_text e ++ flat_map (session_rung_text e) (rungs_of_session number rs)
-whole_text number rs e is =
-    ap (λ o. ladder_between o rs) is ∙ ap (λ o. ends_text e ++ flat_map (session_rung_text e) (rungs_between o rs)) (sym is)
+pub whole_text : (t : DrawnTime) (number : ℕ) (rs : List SessionRung) (e : SessionEnds) → session_at number (sessions_drawn rs) ≡ Some e
+    → session_ladder t number rs ≡ ends_text e ++ flat_map (session_rung_text e) (rungs_within t (rungs_of_session number rs))
+whole_text t number rs e is =
+    ap (λ o. ladder_between t o rs) is ∙ ap (λ o. ends_text e ++ flat_map (session_rung_text e) (rungs_within t (rungs_between o rs))) (sym is)

@@ -15,13 +15,16 @@ use Rattle.book_sessions.specs.declared.outcome.SegmentOutcome.TheVariants as ou
 use Rattle.book_sessions.specs.Sessions.{same_id}
 use Rattle.book_draw_session.specs.declared.fold.RungRun.{RungRun}
 use Rattle.book_draw_session.specs.declared.fold.SessionLine.{SessionLine}
-use Rattle.book_draw_session.specs.declared.fold.SessionLine.TheVariants.{Whole, More}
+use Rattle.book_draw_session.specs.declared.fold.SessionLine.TheVariants.{Whole, More, Left}
 use Rattle.book_draw_session.specs.declared.rung.SessionEnds.{SessionEnds}
 use Rattle.book_draw_session.specs.declared.rung.SessionRung.{SessionRung}
-use Rattle.book_draw_session.specs.Folds.{run_label, folded_session}
+use Rattle.book_draw_session.specs.declared.span.DrawnTime.{DrawnTime}
+use Rattle.book_draw_session.specs.declared.span.LeftRun.{LeftRun}
+use Rattle.book_draw_session.specs.Folds.{lines_and_left, run_label}
 use Rattle.book_draw_session.specs.Ladders.{end_name, said_texts, reached_end, rung_label}
-use Rattle.book_draw_session.specs.Ladders.{session_ladder, time_margin}
+use Rattle.book_draw_session.specs.Ladders.{left_text, session_ladder, time_margin}
 use Rattle.book_draw_session.specs.Rungs.{rungs_of_session, session_at, sessions_drawn}
+use Rattle.book_draw_session.specs.Times.{left_out, left_runs, left_words, rungs_within}
 use Rattle.book_draw_session_svg.specs.declared.form.LadderForm.{LadderForm}
 use Rattle.book_draw_session_svg.specs.declared.form.LadderForm.TheVariants.{Text, Picture}
 use Rattle.book_svg.specs.Tags.{colour_text, head_svg, line_tag, titled_tag, words_tag}
@@ -172,10 +175,18 @@ abbrev pub run_svg : (row : ℕ) → RungRun → List ℕ
 run_svg row m =
     titled_tag (codes "more") (colour_text None) (run_title m) (run_drawing_svg row m)
 
+-- the element of segments that are left out, in its row: its words between the ends (own)
+abbrev pub left_svg : (row : ℕ) → LeftRun → List ℕ
+left_svg row m =
+    titled_tag (codes "left-out") (colour_text None) (left_words m)
+    (words_tag (record { x = rung_label_column A; y = rung_margin_height row }) false
+    (left_words m))
+
 -- the element of a line between these ends in its row (own)
 abbrev pub line_element : SessionEnds → (row : ℕ) → SessionLine → List ℕ
 line_element e row (Whole r) = rung_svg e (rung_in_row row r)
 line_element e row (More m) = run_svg row m
+line_element e row (Left m) = left_svg row m
 
 -- the same, of a line in its row (own)
 abbrev pub session_line_svg : SessionEnds → LineInRow → List ℕ
@@ -262,21 +273,27 @@ session_lines_picture e keys ls =
     session_front_svg e keys (length ls)
     ++ (flat_map (session_line_svg e) (session_rows ls) ++ codes "</svg>\n")
 
--- the picture of the segments of a session between these ends (own)
-abbrev pub session_picture : SessionEnds → List SessionRung → List ℕ
-session_picture e rs = session_lines_picture e (keys_drawn rs) (folded_session e rs)
+-- the picture of the segments of a session that are drawn between these ends, and of those that are
+-- left out (own)
+abbrev pub session_picture : SessionEnds → List SessionRung → List LeftRun → List ℕ
+session_picture e rs left = session_lines_picture e (keys_drawn rs) (lines_and_left e rs left)
 
 -- the same, where there is a session (own)
-abbrev pub picture_between : Option SessionEnds → List SessionRung → List ℕ
-picture_between None rs = []
-picture_between (Some e) rs = session_picture e rs
+abbrev pub picture_between : Option SessionEnds → List SessionRung → List LeftRun → List ℕ
+picture_between None rs left = []
+picture_between (Some e) rs left = session_picture e rs left
 
--- the picture of the session of this number (own)
-abbrev pub session_svg : (number : ℕ) → List SessionRung → List ℕ
-session_svg number rs =
-    picture_between (session_at number (sessions_drawn rs)) (rungs_of_session number rs)
+-- the picture of segments of a session between these ends, of those within a time (own)
+abbrev pub picture_within : DrawnTime → Option SessionEnds → List SessionRung → List ℕ
+picture_within t e rs = picture_between e (rungs_within t rs) (left_runs t (left_out t rs))
 
--- the session of this number, drawn in a form (own)
-abbrev pub session_as : LadderForm → (number : ℕ) → List SessionRung → List ℕ
-session_as Text number rs = session_ladder number rs
-session_as Picture number rs = session_svg number rs
+-- the picture of the session of this number within a time (own)
+abbrev pub session_svg : DrawnTime → (number : ℕ) → List SessionRung → List ℕ
+session_svg t number rs =
+    picture_within t (session_at number (sessions_drawn rs)) (rungs_of_session number rs)
+
+-- the session of this number within a time, drawn in a form (own)
+abbrev pub session_as : LadderForm → DrawnTime → (number : ℕ) → List SessionRung → List ℕ
+session_as Text t number rs =
+    session_ladder t number rs ++ left_text t (left_out t (rungs_of_session number rs))
+session_as Picture t number rs = session_svg t number rs

@@ -6,10 +6,12 @@ mod elements;
 mod fold;
 mod heads;
 mod keys;
+mod left;
 mod lines;
 mod picture;
 mod runs;
 mod says;
 
+pub use left::print_left;
 pub use lines::{push_ends, push_rung};
 pub use picture::print_session_svg;

@@ -1,12 +1,14 @@
 //! The picture of a session.
 ghost use Rattle.std.specs.Prelude.{◌≡◌, ◌≤◌, ◌++◌, IfOk, OnOk, flat_map, length};
+ghost use Rattle.book_draw_session.specs.Times.{left_runs};
 ghost use Rattle.book_draw_session_svg.specs.SessionPictures.{session_line_svg, session_lines_picture, session_picture, session_rows};
 
 use crate::fold::session_lines;
 use crate::heads::push_front;
 use crate::keys::keys_drawn;
+use crate::left::push_left_lines;
 use crate::runs::push_line_element;
-use book_draw_session::{SessionEnds, SessionLine, SessionRung};
+use book_draw_session::{DrawnTime, LeftOut, SessionEnds, SessionLine, SessionRung};
 use std::alloc::{AllocError, Global};
 
 /// The most lines of a picture, 2^32 - 1.
@@ -47,16 +49,19 @@ fn print_lines(
     Ok(out)
 }
 
-/// The picture of the segments of a session between these ends, in SVG. An error only for want of memory, and
-/// where it would have more than 2^32 - 1 lines.
+/// The picture of the segments of a session between these ends that were seen within a time, in SVG, with how many
+/// it leaves out. An error only for want of memory, and where it would have more than 2^32 - 1 lines.
 pub fn print_session_svg(
     alloc: Global,
     ends: &SessionEnds,
     rungs: &[SessionRung],
+    within: DrawnTime,
+    left: LeftOut,
 ) -> Result<Vec<u8>, AllocError>
-    ensures { IfOk result (λ text. text.items ≡ session_picture ends.now rungs.now) }
+    ensures { IfOk result (λ text. text.items ≡ session_picture ends.now rungs.now (left_runs within left)) }
 {
     let keys = keys_drawn(alloc, rungs)?;
-    let lines = session_lines(alloc, ends, rungs)?;
+    let mut lines = session_lines(alloc, ends, rungs)?;
+    push_left_lines(&mut lines, within, left)?;
     print_lines(alloc, ends, keys.as_slice(), lines.as_slice())
 }

@@ -10,6 +10,7 @@ use crate::elements::{
     push_element, push_margin_words, push_packet, rung_label_column, rung_margin_height,
 };
 use crate::fold::push_run_label;
+use crate::left::push_left;
 use crate::lines::push_time;
 use ao_base::push_decimal;
 use book_base::End;
@@ -97,5 +98,6 @@ pub(crate) fn push_line_element(
     match line {
         SessionLine::Whole(rung) => push_element(out, ends, row, rung),
         SessionLine::More(run) => push_run(out, row, run),
+        SessionLine::Left(left) => push_left(out, row, left),
     }
 }

@@ -9,7 +9,6 @@ use Rattle.book_cmd_check.specs.Captures.{Stored}
 use Rattle.book_segments.specs.declared.fault.DatagramFault.{DatagramFault}
 use Rattle.book_segments.specs.Segments.{Segment, Reading, Read, Bad, reading}
 use Rattle.book_sessions.specs.declared.outcome.PassedOver.{PassedOver}
-use Rattle.book_sessions.specs.declared.outcome.SegmentOutcome.{SegmentOutcome}
 use Rattle.book_sessions.specs.declared.outcome.SegmentOutcome.TheVariants.{CutOff}
 use Rattle.book_sessions.specs.CutOff.{cut_segment}
 use Rattle.book_sessions.specs.AsSent.{is_segment, lacks_checksum, mended}
@@ -19,8 +18,7 @@ use Rattle.book_sessions.specs.Sessions.{stored_by, stored_of_packet}
 use Rattle.book_draw_session.specs.declared.rung.SessionRung.{SessionRung}
 use Rattle.book_draw_session.specs.Ladders.{session_ladder}
 use Rattle.book_draw_session.specs.Rungs.{rung_before, rung_heard, rung_said, rungs_of_session, seen_at, session_rung}
-use Rattle.book_draw_session_svg.specs.declared.form.LadderForm.{LadderForm}
-use Rattle.book_draw_session_svg.specs.declared.form.LadderForm.TheVariants.{Text, Picture}
+use Rattle.book_draw_session.specs.Times.{left_out}
 use Rattle.capture_listener.specs.Listeners.{Knows, Listens}
 use Rattle.capture_reader.specs.declared.frames.FoundDatagram.{FoundDatagram}
 use Rattle.capture_reader.specs.Found.{Gives, seen}
@@ -29,58 +27,61 @@ use Rattle.capture_listener.specs.declared.outcomes.HeardSegment.{HeardSegment}
 use Rattle.scope_ladder.specs.declared.drawer.Drawer.{Drawer}
 use Rattle.scope_ladder.specs.declared.search.Shown.{Shown}
 use Rattle.scope_ladder.specs.Drawing.{Adds, AddsPacket, AddsRead, Follows, Request}
-use Rattle.scope_ladder.specs.Searches.{Seeks, kept_as, kept_in, shown_as, shown_rungs, shown_text}
-
--- what is kept of one segment more
-kept_more : (f : LadderForm) (n : ℕ) (rungs : List SessionRung) (r : SessionRung) (shown : Shown) → rungs_of_session n (rungs ++ r ∷ []) ≡ rungs_of_session n rungs ++ shown_rungs shown r
-    → kept_in f n (rungs ++ r ∷ []) ≡ kept_in f n rungs ++ kept_as f shown r
-kept_more Text n rungs r shown is = refl
-kept_more Picture n rungs r shown is = is
+use Rattle.scope_ladder.specs.Searches.{flow_as, kept_as, kept_in, left_with, shown_as, shown_rungs, shown_text}
+use Rattle.scope_ladder.proofs.Within.{Places, flow_more, kept_more, left_shown}
 
 module _ (q : Request) (before now : Drawer) (rungs : List SessionRung) (k : Listening) (follows : Follows q before rungs k) where
-  -- what draws, behind a segment that was drawn
-  module _ (r : SessionRung) (shown : Shown) (empty : before.text.items ≡ []) (number : now.search.number ≡ before.search.number)
-      (seeks : (rs : List SessionRung) → Seeks before.search rs → Seeks now.search (rs ++ r ∷ []))
-      (text : (rs : List SessionRung) → Seeks before.search rs → session_ladder before.search.number (rs ++ r ∷ []) ≡ session_ladder before.search.number rs ++ shown_text shown r)
-      (more : (rs : List SessionRung) → Seeks before.search rs → rungs_of_session before.search.number (rs ++ r ∷ []) ≡ rungs_of_session before.search.number rs ++ shown_rungs shown r)
-      (form : now.form ≡ before.form) (pushed : now.text.items ≡ before.text.items ++ shown_as before.form shown r) (keeps : now.kept.items ≡ before.kept.items ++ kept_as before.form shown r) where
-    drawn : now.text.items ≡ shown_as before.form shown r
-    drawn = pushed ∙ ap (λ (xs : List ℕ). xs ++ shown_as before.form shown r) empty
+  -- what draws, behind a segment that was placed
+  module _ (r : SessionRung) (shown : Shown) (places : Places before now r shown) where
+    drawn : now.text.items ≡ shown_as q.form q.within shown r
+    drawn = places.pushed ∙ (ap (λ (xs : List ℕ). xs ++ shown_as before.form before.within shown r) places.empty
+        ∙ (ap (λ f. shown_as f before.within shown r) follows.form ∙ ap (λ t. shown_as q.form t shown r) follows.within))
 
     one : rungs_of_session q.number (rungs ++ r ∷ []) ≡ rungs_of_session q.number rungs ++ shown_rungs shown r
-    one = subst (λ (n : ℕ). rungs_of_session n (rungs ++ r ∷ []) ≡ rungs_of_session n rungs ++ shown_rungs shown r) follows.number (more rungs follows.seeks)
+    one = subst (λ (n : ℕ). rungs_of_session n (rungs ++ r ∷ []) ≡ rungs_of_session n rungs ++ shown_rungs shown r) follows.number (places.rungs rungs follows.seeks)
 
-    all_kept : now.kept.items ≡ kept_in q.form q.number (rungs ++ r ∷ [])
-    all_kept = keeps ∙ (ap (λ (xs : List SessionRung). xs ++ kept_as before.form shown r) follows.kept
-        ∙ (ap (λ f. kept_in q.form q.number rungs ++ kept_as f shown r) follows.form ∙ sym (kept_more q.form q.number rungs r shown one)))
+    all_kept : now.kept.items ≡ before.kept.items ++ kept_as before.form before.within shown r → now.kept.items ≡ kept_in q.form q.within q.number (rungs ++ r ∷ [])
+    all_kept keeps = keeps ∙ (ap (λ (xs : List SessionRung). xs ++ kept_as before.form before.within shown r) follows.kept
+        ∙ (ap (λ f. kept_in q.form q.within q.number rungs ++ kept_as f before.within shown r) follows.form
+        ∙ (ap (λ t. kept_in q.form q.within q.number rungs ++ kept_as q.form t shown r) follows.within ∙ sym (kept_more q.form q.within q.number rungs r shown one))))
 
-    one_follows : (after : Listening) → now.listener.judging ≡ before.listener.judging → Knows now.listener after → Follows q now (rungs ++ r ∷ []) after
-    one_follows after same knows =
-        record { form = form ∙ follows.form; judging = same ∙ follows.judging; knows = knows; number = number ∙ follows.number; seeks = seeks rungs follows.seeks; kept = all_kept }
+    all_left : now.left ≡ left_out q.within (rungs_of_session q.number (rungs ++ r ∷ []))
+    all_left = places.left ∙ (ap (λ t. left_with t shown before.left r) follows.within
+        ∙ (ap (λ n. left_with q.within shown n r) follows.left
+        ∙ (sym (left_shown q.within shown (rungs_of_session q.number rungs) r) ∙ ap (left_out q.within) (sym one))))
 
-    one_text : q.form ≡ Text → session_ladder q.number (rungs ++ r ∷ []) ≡ session_ladder q.number rungs ++ now.text.items
-    one_text of_text = subst (λ (n : ℕ). session_ladder n (rungs ++ r ∷ []) ≡ session_ladder n rungs ++ shown_text shown r) follows.number (text rungs follows.seeks)
-        ∙ ap (λ (xs : List ℕ). session_ladder q.number rungs ++ xs) (sym (drawn ∙ ap (λ f. shown_as f shown r) (follows.form ∙ of_text)))
+    one_follows : (after : Listening) → now.listener.judging ≡ before.listener.judging → Knows now.listener after → now.kept.items ≡ before.kept.items ++ kept_as before.form before.within shown r → Follows q now (rungs ++ r ∷ []) after
+    one_follows after same knows keeps = record {
+      form = places.form ∙ follows.form;
+      judging = same ∙ follows.judging;
+      knows = knows;
+      number = places.number ∙ follows.number;
+      seeks = places.seeks rungs follows.seeks;
+      within = places.within ∙ follows.within;
+      left = all_left;
+      kept = all_kept keeps;
+    }
+
+    one_text : flow_as q.form q.within q.number (rungs ++ r ∷ []) ≡ flow_as q.form q.within q.number rungs ++ now.text.items
+    one_text = flow_more q.form q.within q.number rungs r shown
+        (subst (λ (n : ℕ). session_ladder q.within n (rungs ++ r ∷ []) ≡ session_ladder q.within n rungs ++ shown_text q.within shown r) follows.number (places.text q.within rungs follows.seeks))
+        ∙ ap (λ (xs : List ℕ). flow_as q.form q.within q.number rungs ++ xs) (sym drawn)
 
   -- a segment that was heard
-  pub adds_heard : (packet time : ℕ) (d : Segment) (told : HeardSegment) (r : SessionRung) (shown : Shown) → before.text.items ≡ []
+  pub adds_heard : (packet time : ℕ) (d : Segment) (told : HeardSegment) (r : SessionRung) (shown : Shown) → Places before now r shown
       → ((k : Listening) → Knows before.listener k → Listens now.listener told d (listen before.listener.judging k (time / 1000000000) (Read d)))
-      → now.listener.judging ≡ before.listener.judging → r ≡ session_rung packet time d told.outcome told.pass → now.search.number ≡ before.search.number
-      → ((rs : List SessionRung) → Seeks before.search rs → Seeks now.search (rs ++ r ∷ []))
-      → ((rs : List SessionRung) → Seeks before.search rs → session_ladder before.search.number (rs ++ r ∷ []) ≡ session_ladder before.search.number rs ++ shown_text shown r)
-      → ((rs : List SessionRung) → Seeks before.search rs → rungs_of_session before.search.number (rs ++ r ∷ []) ≡ rungs_of_session before.search.number rs ++ shown_rungs shown r)
-      → now.form ≡ before.form → now.text.items ≡ before.text.items ++ shown_as before.form shown r → now.kept.items ≡ before.kept.items ++ kept_as before.form shown r → AddsRead q now rungs k packet time d
-  adds_heard packet time d told r shown empty heard same is number seeks text more form pushed keeps =
+      → now.listener.judging ≡ before.listener.judging → r ≡ session_rung packet time d told.outcome told.pass → now.kept.items ≡ before.kept.items ++ kept_as before.form before.within shown r → AddsRead q now rungs k packet time d
+  adds_heard packet time d told r shown places heard same is keeps =
       let h : Listens now.listener told d (listen q.judging k (time / 1000000000) (Read d)) =
       subst (λ (j : Judging). Listens now.listener told d (listen j k (time / 1000000000) (Read d))) follows.judging (heard k follows.knows) in
       let all = listen q.judging k (time / 1000000000) (Read d) in
       record {
         more = r ∷ [];
         after = all.listening;
-        follows = one_follows r shown empty number seeks text more form pushed keeps all.listening same h.knows;
+        follows = one_follows r shown places all.listening same h.knows keeps;
         comes = λ others. ap (λ o. rung_said (rung_heard packet time d all) o (others all.listening)) h.outcome
             ∙ ap (λ x. x ∷ others all.listening) (ap (λ x. session_rung packet time d told.outcome x) (sym h.pass) ∙ sym is);
-        text = one_text r shown empty number seeks text more form pushed keeps;
+        text = one_text r shown places;
       }
 
   -- bytes that are a segment that was cut off
@@ -89,26 +90,23 @@ module _ (q : Request) (before now : Drawer) (rungs : List SessionRung) (k : Lis
   unfolding listen
   cut_comes s time fault read cut d r bad is same others = rw (bad, is, same) refl
 
-  pub adds_cut : (s : Stored) (time : ℕ) (fault : DatagramFault) (d : Segment) (r : SessionRung) (shown : Shown) → reading s.bytes ≡ Bad fault → cut_segment s.bytes ≡ Some d → before.text.items ≡ []
-      → now.listener ≡ before.listener → r ≡ session_rung s.number time d CutOff None → now.search.number ≡ before.search.number
-      → ((rs : List SessionRung) → Seeks before.search rs → Seeks now.search (rs ++ r ∷ []))
-      → ((rs : List SessionRung) → Seeks before.search rs → session_ladder before.search.number (rs ++ r ∷ []) ≡ session_ladder before.search.number rs ++ shown_text shown r)
-      → ((rs : List SessionRung) → Seeks before.search rs → rungs_of_session before.search.number (rs ++ r ∷ []) ≡ rungs_of_session before.search.number rs ++ shown_rungs shown r)
-      → now.form ≡ before.form → now.text.items ≡ before.text.items ++ shown_as before.form shown r → now.kept.items ≡ before.kept.items ++ kept_as before.form shown r → Adds q now rungs k (Some time) (Ok s)
-  adds_cut s time fault d r shown bad cut empty still is number seeks text more form pushed keeps = record {
+  pub adds_cut : (s : Stored) (time : ℕ) (fault : DatagramFault) (d : Segment) (r : SessionRung) (shown : Shown) → reading s.bytes ≡ Bad fault → cut_segment s.bytes ≡ Some d → Places before now r shown
+      → now.listener ≡ before.listener → r ≡ session_rung s.number time d CutOff None → now.kept.items ≡ before.kept.items ++ kept_as before.form before.within shown r → Adds q now rungs k (Some time) (Ok s)
+  adds_cut s time fault d r shown bad cut places still is keeps = record {
     more = r ∷ [];
     after = k;
-    follows = one_follows r shown empty number seeks text more form pushed keeps k (ap (λ x. x.judging) still) (rw still follows.knows);
+    follows = one_follows r shown places k (ap (λ x. x.judging) still) (rw still follows.knows) keeps;
     comes = cut_comes s time fault (reading s.bytes) (cut_segment s.bytes) d r bad cut is;
-    text = one_text r shown empty number seeks text more form pushed keeps;
+    text = one_text r shown places;
   }
 
 module _ (q : Request) (d : Drawer) (rungs : List SessionRung) (k : Listening) (follows : Follows q d rungs k) (empty : d.text.items ≡ []) where
   follows_still : Follows q d (rungs ++ []) k
   follows_still = rw (append-nil rungs) follows
 
-  text_still : q.form ≡ Text → session_ladder q.number (rungs ++ []) ≡ session_ladder q.number rungs ++ d.text.items
-  text_still of_text = ap (session_ladder q.number) (append-nil rungs) ∙ (sym (append-nil (session_ladder q.number rungs)) ∙ ap (λ (xs : List ℕ). session_ladder q.number rungs ++ xs) (sym empty))
+  text_still : flow_as q.form q.within q.number (rungs ++ []) ≡ flow_as q.form q.within q.number rungs ++ d.text.items
+  text_still = ap (flow_as q.form q.within q.number) (append-nil rungs)
+      ∙ (sym (append-nil (flow_as q.form q.within q.number rungs)) ∙ ap (λ (xs : List ℕ). flow_as q.form q.within q.number rungs ++ xs) (sym empty))
 
   -- bytes that are no segment, and none that was cut off
   bad_comes : (s : Stored) (time : ℕ) (fault : DatagramFault) (r : Reading) (cut : Option Segment) → r ≡ Bad fault → cut ≡ None → (others : Listening → List SessionRung)
@@ -200,17 +198,13 @@ adds_found result q now rungs k number t time frame d found bytes time_is found_
 
 -- a segment that was heard, unless memory ran out for what is drawn of it
 pub adds_told : {E : Type 0} (result : Result (Unit {0}) E) (q : Request) (before now : Drawer) (rungs : List SessionRung) (k : Listening) → Follows q before rungs k
-    → (packet time : ℕ) (d : Segment) (told : HeardSegment) (r : SessionRung) (shown : Shown) → before.text.items ≡ []
+    → (packet time : ℕ) (d : Segment) (told : HeardSegment) (r : SessionRung) (shown : Shown) → Places before now r shown
     → ((k : Listening) → Knows before.listener k → Listens now.listener told d (listen before.listener.judging k (time / 1000000000) (Read d)))
-    → now.listener.judging ≡ before.listener.judging → r ≡ session_rung packet time d told.outcome told.pass → now.search.number ≡ before.search.number
-    → ((rs : List SessionRung) → Seeks before.search rs → Seeks now.search (rs ++ r ∷ []))
-    → ((rs : List SessionRung) → Seeks before.search rs → session_ladder before.search.number (rs ++ r ∷ []) ≡ session_ladder before.search.number rs ++ shown_text shown r)
-    → ((rs : List SessionRung) → Seeks before.search rs → rungs_of_session before.search.number (rs ++ r ∷ []) ≡ rungs_of_session before.search.number rs ++ shown_rungs shown r)
-    → now.form ≡ before.form → now.text.items ≡ before.text.items ++ shown_as before.form shown r
-    → OnOk result (now.kept.items ≡ before.kept.items ++ kept_as before.form shown r) → OnOk result (AddsRead q now rungs k packet time d)
-adds_told (Ok done) q before now rungs k follows packet time d told r shown empty heard same is number seeks text more form pushed keeps =
-    adds_heard q before now rungs k follows packet time d told r shown empty heard same is number seeks text more form pushed keeps
-adds_told (Err e) q before now rungs k follows packet time d told r shown empty heard same is number seeks text more form pushed keeps = tt
+    → now.listener.judging ≡ before.listener.judging → r ≡ session_rung packet time d told.outcome told.pass
+    → OnOk result (now.kept.items ≡ before.kept.items ++ kept_as before.form before.within shown r) → OnOk result (AddsRead q now rungs k packet time d)
+adds_told (Ok done) q before now rungs k follows packet time d told r shown places heard same is keeps =
+    adds_heard q before now rungs k follows packet time d told r shown places heard same is keeps
+adds_told (Err e) q before now rungs k follows packet time d told r shown places heard same is keeps = tt
 
 -- bytes that are no segment have a fault
 pub fault_of : (r : Reading) → is_segment r ≡ false → (fault : DatagramFault) × (r ≡ Bad fault)
@@ -225,16 +219,12 @@ rung_is s packet time one other r number same is = rw (number, ← same) is
 
 -- a segment that was cut off, unless memory ran out for what is drawn of it
 pub cut_told : {E : Type 0} (result : Result (Unit {0}) E) (q : Request) (before now : Drawer) (rungs : List SessionRung) (k : Listening) → Follows q before rungs k
-    → (s : Stored) (time : ℕ) (fault : DatagramFault) (d : Segment) (r : SessionRung) (shown : Shown) → reading s.bytes ≡ Bad fault → cut_segment s.bytes ≡ Some d → before.text.items ≡ []
-    → now.listener ≡ before.listener → r ≡ session_rung s.number time d CutOff None → now.search.number ≡ before.search.number
-    → ((rs : List SessionRung) → Seeks before.search rs → Seeks now.search (rs ++ r ∷ []))
-    → ((rs : List SessionRung) → Seeks before.search rs → session_ladder before.search.number (rs ++ r ∷ []) ≡ session_ladder before.search.number rs ++ shown_text shown r)
-    → ((rs : List SessionRung) → Seeks before.search rs → rungs_of_session before.search.number (rs ++ r ∷ []) ≡ rungs_of_session before.search.number rs ++ shown_rungs shown r)
-    → now.form ≡ before.form → now.text.items ≡ before.text.items ++ shown_as before.form shown r
-    → OnOk result (now.kept.items ≡ before.kept.items ++ kept_as before.form shown r) → OnOk result (Adds q now rungs k (Some time) (Ok s))
-cut_told (Ok done) q before now rungs k follows s time fault d r shown bad cut empty still is number seeks text more form pushed keeps =
-    adds_cut q before now rungs k follows s time fault d r shown bad cut empty still is number seeks text more form pushed keeps
-cut_told (Err e) q before now rungs k follows s time fault d r shown bad cut empty still is number seeks text more form pushed keeps = tt
+    → (s : Stored) (time : ℕ) (fault : DatagramFault) (d : Segment) (r : SessionRung) (shown : Shown) → reading s.bytes ≡ Bad fault → cut_segment s.bytes ≡ Some d → Places before now r shown
+    → now.listener ≡ before.listener → r ≡ session_rung s.number time d CutOff None
+    → OnOk result (now.kept.items ≡ before.kept.items ++ kept_as before.form before.within shown r) → OnOk result (Adds q now rungs k (Some time) (Ok s))
+cut_told (Ok done) q before now rungs k follows s time fault d r shown bad cut places still is keeps =
+    adds_cut q before now rungs k follows s time fault d r shown bad cut places still is keeps
+cut_told (Err e) q before now rungs k follows s time fault d r shown bad cut places still is keeps = tt
 
 -- bytes whose header checksum is set
 pub whole_is : (bytes : List ℕ) → lacks_checksum bytes ≡ false → mended bytes ≡ bytes

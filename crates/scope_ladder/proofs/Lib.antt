@@ -1,6 +1,6 @@
 pub mod Drawn
-pub mod Kept
 pub mod KnownLaws
 pub mod Options
 pub mod Searching
 pub mod Walk
+pub mod Within

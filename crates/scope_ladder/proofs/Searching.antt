@@ -6,21 +6,23 @@ use Rattle.std.specs.Option.{option_or, unwrap_or}
 use Rattle.std.proofs.lemmas.List.{append-nil, length-append}
 use Rattle.book_draw_session.specs.declared.rung.SessionEnds.{SessionEnds}
 use Rattle.book_draw_session.specs.declared.rung.SessionRung.{SessionRung}
+use Rattle.book_draw_session.specs.declared.span.DrawnTime.{DrawnTime}
 use Rattle.book_draw_session.specs.Rungs.{ends_of, is_between, rungs_between, rungs_of_session, session_at, sessions_drawn}
-use Rattle.book_draw_session.specs.Ladders.{ends_text, ladder_between, session_rung_text, session_ladder}
+use Rattle.book_draw_session.specs.Ladders.{ends_text, ladder_between, session_ladder}
 use Rattle.book_draw_session.proofs.Places.{any_place, ends_alike, place, place_of}
 use Rattle.book_draw_session.proofs.Steps.{at_last, drawn_last, filter_last, rungs_first, text_first, text_last}
-use Rattle.scope_ladder.specs.Searches.{SeeksBy}
+use Rattle.scope_ladder.specs.Searches.{SeeksBy, timely_text}
+use Rattle.scope_ladder.proofs.Within.{timely_is}
 
 -- the session isn't found behind these segments
 abbrev Unfound : ℕ → List SessionRung → Type 0
 Unfound n rs = session_at n (sessions_drawn rs) ≡ None
 
-no_text : (n : ℕ) (rs : List SessionRung) → Unfound n rs → session_ladder n rs ≡ []
-no_text n rs none = ap (λ o. ladder_between o rs) none
+no_text : (t : DrawnTime) (n : ℕ) (rs : List SessionRung) → Unfound n rs → session_ladder t n rs ≡ []
+no_text t n rs none = ap (λ o. ladder_between t o rs) none
 
-no_more : (n : ℕ) (rs : List SessionRung) (r : SessionRung) → Unfound n rs → Unfound n (rs ++ r ∷ []) → session_ladder n (rs ++ r ∷ []) ≡ session_ladder n rs ++ []
-no_more n rs r none still = no_text n (rs ++ r ∷ []) still ∙ sym (append-nil (session_ladder n rs) ∙ no_text n rs none)
+no_more : (t : DrawnTime) (n : ℕ) (rs : List SessionRung) (r : SessionRung) → Unfound n rs → Unfound n (rs ++ r ∷ []) → session_ladder t n (rs ++ r ∷ []) ≡ session_ladder t n rs ++ []
+no_more t n rs r none still = no_text t n (rs ++ r ∷ []) still ∙ sym (append-nil (session_ladder t n rs) ∙ no_text t n rs none)
 
 no_rungs : (n : ℕ) (rs : List SessionRung) → Unfound n rs → rungs_of_session n rs ≡ []
 no_rungs n rs none = ap (λ o. rungs_between o rs) none
@@ -39,8 +41,8 @@ module _ (n : ℕ) (known : List SessionEnds) (rs : List SessionRung) (r : Sessi
       let same : sessions_drawn (rs ++ r ∷ []) ≡ sessions_drawn rs = drawn_last rs r ∙ ap (λ (b : Bool). if b then sessions_drawn rs else sessions_drawn rs ++ ends_of r ∷ []) (ap (λ es. list_any (λ e. is_between e r) es) (sym seeks.1) ∙ any) in
       (ap (session_at n) same ∙ seeks.0, seeks.1 ∙ sym same)
 
-  pub known_text : list_any (λ e. is_between e r) known ≡ true → session_ladder n (rs ++ r ∷ []) ≡ session_ladder n rs ++ []
-  known_text any = no_more n rs r seeks.0 (known_seeks any).0
+  pub known_text : list_any (λ e. is_between e r) known ≡ true → (t : DrawnTime) → session_ladder t n (rs ++ r ∷ []) ≡ session_ladder t n rs ++ []
+  known_text any t = no_more t n rs r seeks.0 (known_seeks any).0
 
   pub known_rungs : list_any (λ e. is_between e r) known ≡ true → rungs_of_session n (rs ++ r ∷ []) ≡ rungs_of_session n rs ++ []
   known_rungs any = no_more_rungs n rs r seeks.0 (known_seeks any).0
@@ -70,11 +72,12 @@ module _ (n : ℕ) (known : List SessionEnds) (rs : List SessionRung) (r : Sessi
     pub first_seeks : (length now == n) ≡ true → SeeksBy (Some (ends_of r)) n now (rs ++ r ∷ [])
     first_seeks is = at_now ∙ ap (λ (b : Bool). if b then Some (ends_of r) else None) is
 
-    pub first_text : (length now == n) ≡ true → session_ladder n (rs ++ r ∷ []) ≡ session_ladder n rs ++ (ends_text (ends_of r) ++ session_rung_text (ends_of r) r)
-    first_text is =
-        ap (λ o. ladder_between o (rs ++ r ∷ [])) (first_seeks is)
-        ∙ (text_first rs r none (ends_alike (ends_of r))
-        ∙ ap (λ (xs : List ℕ). xs ++ (ends_text (ends_of r) ++ session_rung_text (ends_of r) r)) (sym (no_text n rs seeks.0)))
+    pub first_text : (length now == n) ≡ true → (t : DrawnTime) → session_ladder t n (rs ++ r ∷ []) ≡ session_ladder t n rs ++ (ends_text (ends_of r) ++ timely_text t (ends_of r) r)
+    first_text is t =
+        ap (λ o. ladder_between t o (rs ++ r ∷ [])) (first_seeks is)
+        ∙ (text_first t rs r none (ends_alike (ends_of r))
+        ∙ (ap (λ (xs : List ℕ). ends_text (ends_of r) ++ xs) (timely_is t (ends_of r) r)
+        ∙ ap (λ (xs : List ℕ). xs ++ (ends_text (ends_of r) ++ timely_text t (ends_of r) r)) (sym (no_text t n rs seeks.0))))
 
     pub first_rungs : (length now == n) ≡ true → rungs_of_session n (rs ++ r ∷ []) ≡ rungs_of_session n rs ++ r ∷ []
     first_rungs is =
@@ -86,8 +89,8 @@ module _ (n : ℕ) (known : List SessionEnds) (rs : List SessionRung) (r : Sessi
     pub other_seeks : (length now == n) ≡ false → SeeksBy None n now (rs ++ r ∷ [])
     other_seeks is = (at_now ∙ ap (λ (b : Bool). if b then Some (ends_of r) else None) is, drawn)
 
-    pub other_text : (length now == n) ≡ false → session_ladder n (rs ++ r ∷ []) ≡ session_ladder n rs ++ []
-    other_text is = no_more n rs r seeks.0 (other_seeks is).0
+    pub other_text : (length now == n) ≡ false → (t : DrawnTime) → session_ladder t n (rs ++ r ∷ []) ≡ session_ladder t n rs ++ []
+    other_text is t = no_more t n rs r seeks.0 (other_seeks is).0
 
     pub other_rungs : (length now == n) ≡ false → rungs_of_session n (rs ++ r ∷ []) ≡ rungs_of_session n rs ++ []
     other_rungs is = no_more_rungs n rs r seeks.0 (other_seeks is).0
@@ -98,12 +101,13 @@ module _ (n : ℕ) (known : List SessionEnds) (rs : List SessionRung) (r : Sessi
   pub later_seeks : SeeksBy (Some e) n known (rs ++ r ∷ [])
   later_seeks = at_last n rs r ∙ ap (λ o. option_or o (if suc (place_of r (sessions_drawn rs)) == n then Some (ends_of r) else None)) seeks
 
-  pub later_text : (b : Bool) → is_between e r ≡ b → session_ladder n (rs ++ r ∷ []) ≡ session_ladder n rs ++ (if b then session_rung_text e r else [])
-  later_text b is =
-      ap (λ o. ladder_between o (rs ++ r ∷ [])) later_seeks
-      ∙ (text_last e rs r
-      ∙ (ap (λ (c : Bool). ladder_between (Some e) rs ++ (if c then session_rung_text e r else [])) is
-      ∙ ap (λ o. ladder_between o rs ++ (if b then session_rung_text e r else [])) (sym seeks)))
+  pub later_text : (b : Bool) → is_between e r ≡ b → (t : DrawnTime) → session_ladder t n (rs ++ r ∷ []) ≡ session_ladder t n rs ++ (if b then timely_text t e r else [])
+  later_text b is t =
+      ap (λ o. ladder_between t o (rs ++ r ∷ [])) later_seeks
+      ∙ (text_last t e rs r
+      ∙ (ap (λ (text : List ℕ). ladder_between t (Some e) rs ++ (if is_between e r then text else [])) (timely_is t e r)
+      ∙ (ap (λ (c : Bool). ladder_between t (Some e) rs ++ (if c then timely_text t e r else [])) is
+      ∙ ap (λ o. ladder_between t o rs ++ (if b then timely_text t e r else [])) (sym seeks))))
 
   pub later_rungs : (b : Bool) → is_between e r ≡ b → rungs_of_session n (rs ++ r ∷ []) ≡ rungs_of_session n rs ++ (if b then r ∷ [] else [])
   later_rungs b is =

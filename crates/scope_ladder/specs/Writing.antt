@@ -1,5 +1,5 @@
 -- What is read of a capture and written of it (own). Its top is `Writes`.
-use Rattle.std.specs.Prelude.{◌≡◌, ◌⊎◌, ℕ, ◌<◌, ◌≤◌, true, List, [], ◌∷◌, ◌++◌, length, take, is_some}
+use Rattle.std.specs.Prelude.{◌≡◌, ◌⊎◌, ℕ, ◌<◌, ◌≤◌, true, List, [], ◌++◌, length, take, is_some}
 use Rattle.std.specs.Prelude.{Some, None, Result, Ok, Err}
 use Rattle.std.specs.List.{All}
 use Rattle.ao_base.specs.Outside.{Side, Gave, WasWritten, Rose, IsAtEnd, told}
@@ -9,13 +9,11 @@ use Rattle.book_captures.specs.Captures.{CapturePacket, capture_of}
 use Rattle.book_draw_session.specs.Rungs.{sessions_drawn}
 use Rattle.capture_stream.specs.Reads.{most_read}
 use Rattle.scope_lines.specs.Writes.{HasRead}
-use Rattle.book_draw_session_svg.specs.declared.form.LadderForm.{LadderForm}
-use Rattle.book_draw_session_svg.specs.declared.form.LadderForm.TheVariants.{Text, Picture}
 use Rattle.scope_ladder.specs.declared.draw.LadderHalt.{LadderHalt}
 use Rattle.scope_ladder.specs.declared.draw.LadderHalt.TheVariants as halt
 use Rattle.scope_ladder.specs.declared.draw.TextHalt.{TextHalt}
 use Rattle.scope_ladder.specs.declared.draw.TextHalt.TheVariants as text_halt
-use Rattle.scope_ladder.specs.Drawing.{Request, drawn_text, rungs_for, session_in}
+use Rattle.scope_ladder.specs.Drawing.{Request, drawn_text, flow_text, rungs_for, session_in}
 
 -- the whole capture was read, and its session drawn (own)
 pub record Finishes (q : Request) (given : List ℕ) (source_now out_before out_now : Side) : Type 0 where
@@ -47,50 +45,27 @@ pub record Stops (q : Request) (given : List ℕ) (out_before out_now : Side) : 
   pub has_read : HasRead given read
   pub wrote : WasWritten (drawn_text q read) out_before out_now
 
--- memory ran out for a ladder of text: the session of all packets that were read was drawn, but for the last one (own)
+-- memory ran out: what is drawn before all is read was written of all packets that were read, but for
+-- the last one; that of a picture is nothing (own)
 pub record Lacks (q : Request) (given : List ℕ) (out_before out_now : Side) : Type 0 where
   pub read : List CapturePacket
   pub later : List CapturePacket
   pub one : length later ≤ 1
   pub has_read : HasRead given (read ++ later)
-  pub wrote : WasWritten (drawn_text q read) out_before out_now
+  pub wrote : WasWritten (flow_text q read) out_before out_now
 
--- memory ran out for a picture: nothing was written (own)
-pub record LacksPicture (q : Request) (given : List ℕ) (out_before out_now : Side) : Type 0 where
-  pub read : List CapturePacket
-  pub has_read : HasRead given read
-  pub wrote : WasWritten [] out_before out_now
-
--- memory ran out, in a form (own)
-abbrev pub LacksAs : LadderForm → Request → List ℕ → (out_before out_now : Side) → Type 0
-LacksAs Text q given out_before out_now = Lacks q given out_before out_now
-LacksAs Picture q given out_before out_now = LacksPicture q given out_before out_now
-
--- a write of a ladder of text failed: of what is drawn of the last packet that was read a front part was written (own)
+-- a write failed: of what is drawn of all packets that were read a front part was written, with all
+-- that is drawn before all is read of these but the last one (own)
 pub record Breaks (q : Request) (given : List ℕ) (out_before out_now : Side) : Type 0 where
   pub read : List CapturePacket
-  pub last : CapturePacket
+  pub later : List CapturePacket
+  pub one : length later ≤ 1
   pub n : ℕ
-  pub has_read : HasRead given (read ++ last ∷ [])
-  pub at_least : length (drawn_text q read) ≤ n
-  pub not_all : n < length (drawn_text q (read ++ last ∷ []))
-  pub wrote : WasWritten (take n (drawn_text q (read ++ last ∷ []))) out_before out_now
+  pub has_read : HasRead given (read ++ later)
+  pub at_least : length (flow_text q read) ≤ n
+  pub not_all : n < length (drawn_text q (read ++ later))
+  pub wrote : WasWritten (take n (drawn_text q (read ++ later))) out_before out_now
   pub rose : Rose out_before out_now
-
--- a write of a picture failed: a front part of the picture of all packets that were read was written
--- (own)
-pub record BreaksPicture (q : Request) (given : List ℕ) (out_before out_now : Side) : Type 0 where
-  pub read : List CapturePacket
-  pub n : ℕ
-  pub has_read : HasRead given read
-  pub not_all : n < length (drawn_text q read)
-  pub wrote : WasWritten (take n (drawn_text q read)) out_before out_now
-  pub rose : Rose out_before out_now
-
--- a write failed, in a form (own)
-abbrev pub BreaksAs : LadderForm → Request → List ℕ → (out_before out_now : Side) → Type 0
-BreaksAs Text q given out_before out_now = Breaks q given out_before out_now
-BreaksAs Picture q given out_before out_now = BreaksPicture q given out_before out_now
 
 -- how each end comes (own)
 abbrev pub Ends : Request → List ℕ → (source_before source_now out_before out_now : Side) →
@@ -106,9 +81,9 @@ Ends q given source_before source_now out_before out_now (Err halt.TooLong) =
 Ends q given source_before source_now out_before out_now (Err halt.Read) =
     Rose source_before source_now × Stops q given out_before out_now
 Ends q given source_before source_now out_before out_now (Err halt.Write) =
-    BreaksAs q.form q given out_before out_now
+    Breaks q given out_before out_now
 Ends q given source_before source_now out_before out_now (Err halt.Memory) =
-    LacksAs q.form q given out_before out_now
+    Lacks q given out_before out_now
 
 -- a session of a capture is drawn, of which the source gave these bytes (own)
 pub record Writes (q : Request) (given : List ℕ)
@@ -130,9 +105,9 @@ abbrev pub WritesText : List ℕ → Side → Side → Result (Unit {0}) TextHal
 WritesText text out_before out_now (Ok done) = WasWritten text out_before out_now
 WritesText text out_before out_now (Err text_halt.Write) = BreaksText text out_before out_now
 
--- a picture that was kept was written, and this is told then; or memory ran out, or a write failed
-abbrev pub WritesKept : (text : List ℕ) → Side → Side → (after result : Result (Unit {0}) LadderHalt) → Type 0
-WritesKept text out_before out_now after result =
+-- what is drawn when all is read was written, and this is told then; or memory ran out, or a write failed
+abbrev pub WritesLast : (text : List ℕ) → Side → Side → (after result : Result (Unit {0}) LadderHalt) → Type 0
+WritesLast text out_before out_now after result =
     (WasWritten text out_before out_now × (result ≡ after))
     ⊎ ((WasWritten [] out_before out_now × (result ≡ Err halt.Memory))
     ⊎ (BreaksText text out_before out_now × (result ≡ Err halt.Write)))

@@ -1,24 +1,35 @@
-//! A session of a capture as text, each segment drawn before the next packet is read.
-ghost use Rattle.std.specs.Prelude.{◌≡◌, ◌<◌, [], ℕ, List, Ok, Err, is_some, length};
+//! A session of a capture, each segment drawn before the next packet is read.
+ghost use Rattle.std.specs.Prelude.{◌≡◌, ◌<◌, [], ℕ, List};
 ghost use Rattle.ao_base.specs.Outside.{Side};
-ghost use Rattle.book_draw_session.specs.Rungs.{session_at, sessions_drawn};
-ghost use Rattle.book_draw_session.specs.declared.rung.SessionRung.{SessionRung as Segment};
-ghost use Rattle.book_draw_session_svg.specs.declared.form.LadderForm.TheVariants.{Text};
+ghost use Rattle.book_sessions.specs.Listening.{listening_behind};
 ghost use Rattle.capture_stream.specs.Reads.{new_reading};
 ghost use Rattle.scope_ladder.specs.Drawing.{Follows, Request, request_of};
-ghost use Rattle.scope_ladder.specs.Searches.{Seeks, Tells};
-ghost use Rattle.scope_ladder.specs.Writing.{Writes, WritesText};
-ghost use Rattle.book_sessions.specs.Listening.{listening_behind};
+ghost use Rattle.scope_ladder.specs.Writing.{Writes};
 
 use crate::drawer::Drawer;
-use crate::search::Search;
-use ao_base::{Failed, Sink, Source, Steps, write_all};
+use crate::last::{told, write_last, write_text};
+use ao_base::{Sink, Source, Steps};
+use book_draw_session::DrawnTime;
 use book_draw_session_svg::LadderForm;
 use book_sessions::GivenIsns;
 use capture_stream::{CaptureFault, CaptureHalt, CaptureReader, CaptureStep};
 use key_table::Tables;
 use std::alloc::Global;
+use std::marker::Brand;
 use std::sync::ledger::{Blank, Ledger};
+
+/// Which session of a capture is drawn.
+#[derive(Clone, Copy, Debug, PartialEq, Eq)]
+pub struct LadderRequest {
+    /// In which form.
+    pub form: LadderForm,
+    /// Over how many laps of the sequence space a segment is judged whose MAC is wrong.
+    pub laps: u32,
+    /// Its number, the first one being 1.
+    pub number: u64,
+    /// Within which time its segments were seen that are drawn; all are judged.
+    pub within: DrawnTime,
+}
 
 /// Why not the session of a whole capture was drawn.
 #[derive(Clone, Copy, Debug, PartialEq, Eq)]
@@ -43,27 +54,7 @@ pub(crate) enum TextHalt {
     Write,
 }
 
-/// Writes this text.
-pub(crate) fn write_text<O: Sink>(text: &[u8], out: &mut O) -> Result<(), TextHalt>
-    ensures { WritesText text.now (O.side out.old) (O.side out.new) result }
-{
-    match write_all(out, text) {
-        Ok(()) => Ok(()),
-        Err(Failed) => Err(TextHalt::Write),
-    }
-}
-
-/// Whether the session was found, at the capture's end.
-pub(crate) fn told(search: &Search) -> Result<(), LadderHalt>
-    ensures { (rs : List Segment) → Seeks search.now rs → Tells search.now.number rs result }
-{
-    match search.found {
-        Some(_) => Ok(()),
-        None => Err(LadderHalt::NoSession(search.known.len())),
-    }
-}
-
-// Draws the session that a drawer of text to which nothing came is asked for, of what a new reader shows.
+// Draws the session that a drawer to which nothing came is asked for, of what a new reader shows.
 fn draw_all<L: Ledger, I: Source, O: Sink>(
     reader: &mut CaptureReader,
     drawer: &mut Drawer,
@@ -73,17 +64,25 @@ fn draw_all<L: Ledger, I: Source, O: Sink>(
     out: &mut O,
 ) -> Result<(), LadderHalt>
     requires { reader.old ≡ new_reading }
-    ensures { (q : Request) → q.form ≡ Text → Follows q drawer.old [] (listening_behind q.given) → (given : List ℕ) × Writes q given
+    ensures { (q : Request) → Follows q drawer.old [] (listening_behind q.given) → (given : List ℕ) × Writes q given
         (I.side input.old) (I.side input.new) (O.side out.old) (O.side out.new) result }
 {
     'parts: loop {
         match reader.next(input) {
             Ok(CaptureStep::Packet) => {}
             Ok(CaptureStep::Block) => continue 'parts,
-            Ok(CaptureStep::End) => return told(&drawer.search),
-            Err(CaptureHalt::Read) => return Err(LadderHalt::Read),
-            Err(CaptureHalt::TooLong) => return Err(LadderHalt::TooLong),
-            Err(CaptureHalt::Broken(fault)) => return Err(LadderHalt::Broken(fault)),
+            Ok(CaptureStep::End) => {
+                return write_last(alloc, drawer, out, told(&drawer.search));
+            }
+            Err(CaptureHalt::Read) => {
+                return write_last(alloc, drawer, out, Err(LadderHalt::Read));
+            }
+            Err(CaptureHalt::TooLong) => {
+                return write_last(alloc, drawer, out, Err(LadderHalt::TooLong));
+            }
+            Err(CaptureHalt::Broken(fault)) => {
+                return write_last(alloc, drawer, out, Err(LadderHalt::Broken(fault)));
+            }
         }
         match drawer.draw_packet(alloc, steps, reader) {
             Ok(()) => {}
@@ -96,14 +95,13 @@ fn draw_all<L: Ledger, I: Source, O: Sink>(
     }
 }
 
-/// The same as `draw_session` for text, with a counter of derivations. The loop stands apart, over what it borrows:
-/// each of its ends would drop what was made here.
-pub(crate) fn draw_counted<L: Ledger, I: Source, O: Sink>(
+// The same as `draw_session`, with a counter of derivations. The loop stands apart, over what it borrows: each of
+// its ends would drop what was made here.
+fn draw_counted<L: Ledger, I: Source, O: Sink>(
     alloc: Global,
+    asked: LadderRequest,
     tables: Tables,
-    laps: u32,
     isns: &[GivenIsns],
-    number: u64,
     input: &mut I,
     out: &mut O,
     blank: Blank,
@@ -111,7 +109,7 @@ pub(crate) fn draw_counted<L: Ledger, I: Source, O: Sink>(
     requires name { blank.name ≡ L.name }
     requires parts { blank.parts ≡ L.parts }
     requires part { 0 < blank.parts }
-    ensures { (given : List ℕ) × Writes (request_of Text tables laps isns.now number) given
+    ensures { (given : List ℕ) × Writes (request_of asked tables isns.now) given
         (I.side input.old) (I.side input.new) (O.side out.old) (O.side out.new) result }
 {
     let mut steps = Steps::<L>::new(blank);
@@ -119,9 +117,36 @@ pub(crate) fn draw_counted<L: Ledger, I: Source, O: Sink>(
         Ok(reader) => reader,
         Err(_) => return Err(LadderHalt::Memory),
     };
-    let mut drawer = match Drawer::new(alloc, LadderForm::Text, tables, laps, isns, number) {
+    let mut drawer = match Drawer::new(alloc, asked, tables, isns) {
         Ok(drawer) => drawer,
         Err(_) => return Err(LadderHalt::Memory),
     };
     draw_all(&mut reader, &mut drawer, alloc, &mut steps, input, out)
+}
+
+/// Draws the session of a capture that is asked for, judged by the tables as behind handshakes with the given initial
+/// sequence numbers. Of text the lines of each packet are written before the next one is read, and last how many
+/// segments are left out before and after the time that is asked for; a picture is written when all is read. Ok
+/// at the capture's end.
+///
+/// NoSession comes exactly where the capture ends and none of its sessions has the number; nothing was written
+/// then. Broken comes where the capture has this fault, whatever follows it; Read only where the source's count
+/// of faults rose; TooLong only where it gave more than 2^63 bytes. With each of these the session of all
+/// packets that were read before is written, and nothing else. Write comes only where the sink's count of
+/// faults rose, with a front part of what is drawn of the packets that were read; of text all lines of those before
+/// the last one are in it. Memory comes for want of memory, and where a picture would have 2^32 lines or more: of
+/// text perhaps without the last packet and what is left out, of a picture with nothing written.
+pub fn draw_session<I: Source, O: Sink>(
+    alloc: Global,
+    asked: LadderRequest,
+    tables: Tables,
+    isns: &[GivenIsns],
+    input: &mut I,
+    out: &mut O,
+) -> Result<(), LadderHalt>
+    ensures { (given : List ℕ) × Writes (request_of asked tables isns.now) given
+        (I.side input.old) (I.side input.new) (O.side out.old) (O.side out.new) result }
+{
+    let blank = Blank::new(1);
+    draw_counted::<Brand, I, O>(alloc, asked, tables, isns, input, out, blank)
 }

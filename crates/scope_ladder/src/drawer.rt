@@ -1,5 +1,5 @@
 //! A session of a capture, drawn packet by packet.
-ghost use Rattle.std.specs.Prelude.{◌≡◌, ◌≤◌, ◌<◌, ◌/◌, ◌∷◌, ◌++◌, [], ℕ, false, List, IfOk, IsSome, Ok, OnOk, Some, length};
+ghost use Rattle.std.specs.Prelude.{◌≡◌, ◌≤◌, ◌/◌, [], false, List, IfOk, IsSome, Ok, OnOk, Some, length};
 ghost use Rattle.book_captures.specs.Captures.{CapturePacket};
 ghost use Rattle.book_segments.specs.declared.fault.DatagramFault.{DatagramFault};
 ghost use Rattle.book_segments.specs.Segments.{Read, Segment as Cut, reading};
@@ -11,34 +11,34 @@ ghost use Rattle.book_draw_session.specs.Rungs.{session_rung};
 ghost use Rattle.book_draw_session.specs.declared.rung.SessionRung.{SessionRung as Segment};
 ghost use Rattle.scope_lines.specs.Writes.{found_in};
 ghost use Rattle.scope_ladder.specs.Drawing.{Adds, AddsPacket, AddsRead, Follows, IsCutAs, Request, request_of};
-ghost use Rattle.scope_ladder.specs.Searches.{kept_as, shown_as, shown_rungs, shown_text};
 
+use crate::draw::LadderRequest;
 use crate::protections::protection_of;
-use crate::search::{Search, Shown};
+use crate::search::Search;
+use crate::shown::{NANOSECONDS, keep_shown, left_with, push_shown};
 use ao_base::Steps;
-use book_draw_session::SessionRung;
+use book_draw_session::{DrawnTime, LeftOut, SessionRung};
 use book_draw_session_svg::LadderForm;
 use book_sessions::{GivenIsns, SegmentOutcome};
 use capture_listener::{HeardSegment, Listener, cut_whole, key_ids, mended};
 use capture_reader::FoundDatagram;
 use capture_stream::{CaptureReader, Skipped};
-use draw_session_rungs::{push_ends, push_rung};
 use key_table::Tables;
 use scope_lines::judged;
 use std::alloc::{AllocError, Global};
 use std::sync::ledger::Ledger;
 use tcp_segment::{Datagram, read_datagram};
 
-/// How many nanoseconds a second has.
-const NANOSECONDS: u64 = 1_000_000_000;
-
-/// What draws a session in a form: what is heard of the capture, the search for the session, the text that is
-/// drawn of the packet that came last, and the segments that are kept for a picture.
+/// What draws a session in a form, of those segments that were seen within a time: what is heard of the capture, the
+/// search for the session, how many of its segments are left out, the text that is drawn of the packet that came
+/// last, and the segments that are kept for a picture.
 #[derive(Drop)]
 pub(crate) struct Drawer {
     pub(crate) form: LadderForm,
+    pub(crate) within: DrawnTime,
     pub(crate) listener: Listener,
     pub(crate) search: Search,
+    pub(crate) left: LeftOut,
     pub(crate) text: Vec<u8>,
     pub(crate) kept: Vec<SessionRung>,
 }
@@ -62,86 +62,26 @@ fn session_rung(packet: u64, time: u64, datagram: &Datagram<'_>, heard: HeardSeg
     }
 }
 
-fn push_shown_text(out: &mut Vec<u8>, shown: Shown, rung: &SessionRung) -> Result<(), AllocError>
-    ensures { OnOk result (out.new.items ≡ out.old.items ++ shown_text shown rung.now) }
-{
-    match shown {
-        Shown::Nothing => Ok(()),
-        Shown::First(ends) => {
-            push_ends(out, &ends)?;
-            push_rung(out, &ends, rung)
-        }
-        Shown::Later(ends) => push_rung(out, &ends, rung),
-    }
-}
-
-// Puts the text that is drawn of a segment in the form behind `out`.
-fn push_shown(
-    out: &mut Vec<u8>,
-    form: LadderForm,
-    shown: Shown,
-    rung: &SessionRung,
-) -> Result<(), AllocError>
-    ensures { OnOk result (out.new.items ≡ out.old.items ++ shown_as form shown rung.now) }
-{
-    match form {
-        LadderForm::Text => push_shown_text(out, shown, rung),
-        LadderForm::Picture => Ok(()),
-    }
-}
-
-fn keep_shown_rung(
-    kept: &mut Vec<SessionRung>,
-    shown: Shown,
-    rung: &SessionRung,
-) -> Result<(), AllocError>
-    ensures { OnOk result (kept.new.items ≡ kept.old.items ++ shown_rungs shown rung.now) }
-{
-    match shown {
-        Shown::Nothing => Ok(()),
-        Shown::First(_) => {
-            kept.push(*rung)?;
-            Ok(())
-        }
-        Shown::Later(_) => {
-            kept.push(*rung)?;
-            Ok(())
-        }
-    }
-}
-
-// Keeps of a segment what the form needs in the end.
-fn keep_shown(
-    kept: &mut Vec<SessionRung>,
-    form: LadderForm,
-    shown: Shown,
-    rung: &SessionRung,
-) -> Result<(), AllocError>
-    ensures { OnOk result (kept.new.items ≡ kept.old.items ++ kept_as form shown rung.now) }
-{
-    match form {
-        LadderForm::Text => Ok(()),
-        LadderForm::Picture => keep_shown_rung(kept, shown, rung),
-    }
-}
-
 impl Drawer {
-    /// What draws the session of this number in a form: nothing came yet.
+    /// What draws the session that is asked for: nothing came yet.
     pub(crate) fn new(
         alloc: Global,
-        form: LadderForm,
+        asked: LadderRequest,
         tables: Tables,
-        laps: u32,
         isns: &[GivenIsns],
-        number: u64,
     ) -> Result<Drawer, AllocError>
-        ensures { IfOk result (λ d. Follows (request_of form tables laps isns.now number) d [] (listening_behind isns.now)) }
+        ensures { IfOk result (λ d. Follows (request_of asked tables isns.now) d [] (listening_behind isns.now)) }
     {
-        let listener = Listener::behind(alloc, tables, laps, isns)?;
+        let listener = Listener::behind(alloc, tables, asked.laps, isns)?;
         Ok(Drawer {
-            form,
+            form: asked.form,
+            within: asked.within,
             listener,
-            search: Search::new(alloc, number),
+            search: Search::new(alloc, asked.number),
+            left: LeftOut {
+                before: 0,
+                after: 0,
+            },
             text: Vec::new(alloc),
             kept: Vec::new(alloc),
         })
@@ -164,10 +104,12 @@ impl Drawer {
             .listener
             .hear(alloc, time / NANOSECONDS, datagram, steps)?;
         let form = self.form;
+        let within = self.within;
         let rung = session_rung(packet, time, datagram, heard);
         let shown = self.search.place(&rung)?;
-        push_shown(&mut self.text, form, shown, &rung)?;
-        keep_shown(&mut self.kept, form, shown, &rung)
+        self.left = left_with(within, shown, self.left, &rung);
+        push_shown(&mut self.text, form, within, shown, &rung)?;
+        keep_shown(&mut self.kept, form, within, shown, &rung)
     }
 
     // Draws a segment that was cut off, whose bytes are those of the stored ones, with zeros for the missing ones.
@@ -184,10 +126,12 @@ impl Drawer {
             Err(_) => Ok(()),
             Ok(datagram) => {
                 let form = self.form;
+                let within = self.within;
                 let rung = session_rung(packet, time, &datagram, heard);
                 let shown = self.search.place(&rung)?;
-                push_shown(&mut self.text, form, shown, &rung)?;
-                keep_shown(&mut self.kept, form, shown, &rung)
+                self.left = left_with(within, shown, self.left, &rung);
+                push_shown(&mut self.text, form, within, shown, &rung)?;
+                keep_shown(&mut self.kept, form, within, shown, &rung)
             }
         }
     }

@@ -1,8 +1,9 @@
 //! Which sockets the session has that is drawn.
 ghost use Rattle.std.specs.Prelude.{◌≡◌, ◌∷◌, ◌++◌, [], List, IfOk, OnOk};
 ghost use Rattle.book_draw_session.specs.Ladders.{session_ladder};
-ghost use Rattle.book_draw_session.specs.Rungs.{ends_of, is_between, rungs_of_session, same_ends};
+ghost use Rattle.book_draw_session.specs.Rungs.{ends_of, is_between, rungs_of_session};
 ghost use Rattle.book_draw_session.specs.declared.rung.SessionRung.{SessionRung as Segment};
+ghost use Rattle.book_draw_session.specs.declared.span.DrawnTime.{DrawnTime as Time};
 ghost use Rattle.scope_ladder.specs.Searches.{Seeks, shown_rungs, shown_text};
 
 use crate::known::KnownEnds;
@@ -62,8 +63,8 @@ impl Search {
     fn seek(&mut self, rung: &SessionRung) -> Result<Shown, AllocError>
         ensures number { self.new.number ≡ self.old.number }
         ensures seeks { (rs : List Segment) → Seeks self.old rs → self.old.found ≡ None → OnOk result (Seeks self.new (rs ++ rung.now ∷ [])) }
-        ensures shown { (rs : List Segment) → Seeks self.old rs → self.old.found ≡ None
-            → IfOk result (λ shown. session_ladder self.old.number (rs ++ rung.now ∷ []) ≡ session_ladder self.old.number rs ++ shown_text shown rung.now) }
+        ensures shown { (t : Time) (rs : List Segment) → Seeks self.old rs → self.old.found ≡ None
+            → IfOk result (λ shown. session_ladder t self.old.number (rs ++ rung.now ∷ []) ≡ session_ladder t self.old.number rs ++ shown_text t shown rung.now) }
         ensures rungs { (rs : List Segment) → Seeks self.old rs → self.old.found ≡ None
             → IfOk result (λ shown. rungs_of_session self.old.number (rs ++ rung.now ∷ []) ≡ rungs_of_session self.old.number rs ++ shown_rungs shown rung.now) }
     {
@@ -83,8 +84,8 @@ impl Search {
     pub(crate) fn place(&mut self, rung: &SessionRung) -> Result<Shown, AllocError>
         ensures number { self.new.number ≡ self.old.number }
         ensures seeks { (rs : List Segment) → Seeks self.old rs → OnOk result (Seeks self.new (rs ++ rung.now ∷ [])) }
-        ensures shown { (rs : List Segment) → Seeks self.old rs
-            → IfOk result (λ shown. session_ladder self.old.number (rs ++ rung.now ∷ []) ≡ session_ladder self.old.number rs ++ shown_text shown rung.now) }
+        ensures shown { (t : Time) (rs : List Segment) → Seeks self.old rs
+            → IfOk result (λ shown. session_ladder t self.old.number (rs ++ rung.now ∷ []) ≡ session_ladder t self.old.number rs ++ shown_text t shown rung.now) }
         ensures rungs { (rs : List Segment) → Seeks self.old rs
             → IfOk result (λ shown. rungs_of_session self.old.number (rs ++ rung.now ∷ []) ≡ rungs_of_session self.old.number rs ++ shown_rungs shown rung.now) }
     {

@@ -8,4 +8,4 @@ draw_found-requires-clause-found g c = found_within c.args.reader.now.packet c.f
 pub returns : goal.returns
 returns g c q rungs k p is follows =
     adds_on c.draw_found.result q c.draw_found.new.self rungs k c.args.reader.now.packet p c.number.result c.time.result c.frame.result.now c.datagram.result is c.number.ensures c.time.ensures c.frame.ensures c.datagram.ensures.exact
-    (c.draw_found.ensures q rungs k (record { form = follows.form; judging = follows.judging; knows = follows.knows; number = follows.number; seeks = follows.seeks; kept = follows.kept }))
+    (c.draw_found.ensures q rungs k (record { form = follows.form; judging = follows.judging; knows = follows.knows; number = follows.number; seeks = follows.seeks; within = follows.within; left = follows.left; kept = follows.kept }))

@@ -8,6 +8,18 @@ returns-in-Err c q rungs k s fault d follows read cut = let impossible = sym c.i
 pub returns-in_ok-push_shown-in-Ok : goal.returns-in_ok-push_shown-in-Ok
 returns-in_ok-push_shown-in-Ok c q rungs k s fault d follows read cut =
     let same = one_read c.in-Ok.datagram d (sym c.in-Ok.ensures.read ∙ read) in
-    cut_told c.keep_shown.result q c.args.self.now (record { form = c.args.self.now.form; listener = c.args.self.now.listener; search = c.place.new.self; text = c.push_shown.new.out; kept = c.keep_shown.new.kept }) rungs k follows s c.args.time fault d c.session_rung-rung.result
-    c.in_ok-shown-in-Ok.shown cut.bad cut.cut c.requires refl (rung_is s c.args.packet c.args.time c.in-Ok.datagram d c.session_rung-rung.result cut.number same c.session_rung-rung.ensures)
-    c.in_ok-shown-in-Ok.ensures.number c.in_ok-shown-in-Ok.ensures.seeks c.in_ok-shown-in-Ok.ensures.shown c.in_ok-shown-in-Ok.ensures.rungs refl c.in_ok-push_shown-in-Ok.ensures c.keep_shown.ensures
+    let before = c.args.self.now in
+    cut_told c.keep_shown.result q before
+    (record { form = before.form; within = before.within; listener = before.listener; search = c.place.new.self; left = c.left_with-self.result; text = c.push_shown.new.out; kept = c.keep_shown.new.kept }) rungs k follows
+    s c.args.time fault d c.session_rung-rung.result c.in_ok-shown-in-Ok.shown cut.bad cut.cut
+    (record {
+      empty = c.requires;
+      form = refl;
+      within = refl;
+      number = c.in_ok-shown-in-Ok.ensures.number;
+      seeks = c.in_ok-shown-in-Ok.ensures.seeks;
+      text = c.in_ok-shown-in-Ok.ensures.shown;
+      rungs = c.in_ok-shown-in-Ok.ensures.rungs;
+      left = c.left_with-self.ensures;
+      pushed = c.in_ok-push_shown-in-Ok.ensures;
+    }) refl (rung_is s c.args.packet c.args.time c.in-Ok.datagram d c.session_rung-rung.result cut.number same c.session_rung-rung.ensures) c.keep_shown.ensures
