@@ -27,14 +27,15 @@ begins to send with another row it says that no key changes. A line that begins 
 worth a look though it may hold: a key that never ends, is short, was used before or ends in a line feed, and times of one \
 end that are all later by the same whole hours.
 
-With --draw there is a bar instead for each row and whether it accepts or sends, over the time from FROM to TO: # is \
-a column in each second of which it does so, + one in some of which. Below them each column is marked with ! in \
-which something is wrong: a row that the other end doesn't take may send in it, or a node has no row to send with.
+With --draw there is a bar instead for each row that may send from FROM to TO, and right after it one for each row \
+of the other end that accepts under its id: # is a column in each second of which it does so, + one in some of which. \
+Where something is wrong, a line below them marks with ! each column in which a row that the other end doesn't take \
+may send, or a node has no row to send with. Above two connections or more stands how many are aligned.
 
-With --draw --svg these bars are one picture that a browser shows, each at the very seconds in which its row does so, \
-in a colour for each KeyID, filled where it sends and white where it accepts. Below them a black box stands over each \
-column that has a !. Each bar has a title with the whole lifetime of its row, also where Direction keeps the row from \
-doing so, and each box one that says when it is.
+With --draw --svg these bars are one picture that a browser shows, with dates, each bar at the very seconds in which \
+its row does so, in a colour for each KeyID, filled where it sends and white where it accepts; a triangle says that \
+it goes on before FROM or after TO. Below them a black box stands over the seconds of each finding. Each bar has a \
+title with the whole lifetime of its row, and each box one that says when it is.
 
 Status 0: all plans are aligned and change a key; 1: one isn't or doesn't, or no node has an address, or there is no \
 connection or no node; 2: usage, \

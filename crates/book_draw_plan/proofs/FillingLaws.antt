@@ -1,14 +1,13 @@
 -- How a test fills a slice, by the times that pass.
-use Rattle.std.proofs.Common.{◌≡◌, ◌↔◌, ℕ, zero, suc, ◌+◌, ◌-◌, ◌<◌, ◌≤◌, Bool, true, false, ◌&&◌, ◌||◌, ◌⊎◌, inl, inr, refl, sym, ap, ◌∙◌, subst, arith, if◌then◌else◌}
+use Rattle.std.proofs.Common.{◌≡◌, ◌↔◌, ℕ, zero, suc, ◌+◌, ◌-◌, ◌<◌, ◌≤◌, Bool, true, false, ◌&&◌, ◌||◌, ◌⊎◌, inl, inr, refl, subst, arith}
 use Rattle.std.proofs.lemmas.Bool.{cases_lt}
 use Rattle.book_base.specs.declared.address.Pair.{Pair}
 use Rattle.book_keys.specs.Rows.{Row}
 use Rattle.book_draw_plan.specs.declared.slice.Slice.{Slice}
 use Rattle.book_draw_plan.specs.declared.duty.Duty.{Duty}
-use Rattle.book_draw_plan.specs.declared.duty.Filling.{Filling}
-use Rattle.book_draw_plan.specs.declared.duty.Filling.TheVariants.{Never, Partly, Wholly}
-use Rattle.book_draw_plan.specs.Bars.{is_doing, row_filling}
-use Rattle.book_draw_plan.specs.Slices.{all_pass, any_passes, times_in, filled_by, filling}
+use Rattle.book_draw_plan.specs.declared.duty.Filling.TheVariants.{Never, Wholly}
+use Rattle.book_draw_plan.specs.BarOrders.{is_doing, row_filling}
+use Rattle.book_draw_plan.specs.Slices.{all_pass, any_passes, filled_by, filling}
 
 -- ---- times that pass
 

@@ -1,3 +1,4 @@
 pub mod FillingLaws
-mod MarkLaws
+pub mod MarkLaws
+pub mod OrderLaws
 mod SliceLaws

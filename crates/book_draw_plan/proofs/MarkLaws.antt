@@ -13,14 +13,14 @@ use Rattle.book_keys.specs.declared.plan.Plan.{Plan}
 use Rattle.book_keys.specs.Plans.{mirrored, Reason, NoPeerRow, ShortAccept, unmet_reason, has_sendable, lint_of, rows_at, rows_of_table}
 use Rattle.book_keys.specs.Rows.{Row, Table, sendable}
 use Rattle.book_plans.specs.declared.finding.Finding.{Finding}
-use Rattle.book_plans.specs.declared.finding.Finding.TheVariants as finding
 use Rattle.book_plans.specs.Findings.{AreLongest, Span, failing_spans, finding_by, findings, gap_finding, gap_findings, unmet_findings, with_finding}
 use Rattle.book_plans.proofs.FindingLaws.{are_longest, none_exactly}
 use Rattle.book_scope_plan.specs.CalendarTexts.{side_of}
 use Rattle.book_scope_plan.specs.PlanTexts.{node_with, plan_findings}
 use Rattle.book_draw_plan.specs.declared.slice.Slice.{Slice}
 use Rattle.book_draw_plan.specs.declared.duty.Duty.TheVariants.{Sends}
-use Rattle.book_draw_plan.specs.Bars.{is_filled, is_marked, is_seen, numbered_sends, pair_at, row_filling, slice_mark, wrong_byte}
+use Rattle.book_draw_plan.specs.BarOrders.{is_filled, row_filling}
+use Rattle.book_draw_plan.specs.Bars.{is_marked, is_seen, numbered_sends, pair_at, slice_mark, wrong_byte}
 use Rattle.book_draw_plan.specs.Slices.{all_pass, any_passes, filled_by, filling, times_in}
 use Rattle.book_draw_plan.specs.Wrongs.{PassesWithin, is_wrong_at, is_wrong_from, sends_unmet}
 use Rattle.book_draw_plan.proofs.FillingLaws.{any_false, not_none}
@@ -51,7 +51,7 @@ found_at : (test : ℕ → Bool) (time n : ℕ) → any_passes test time n ≡ t
 found_at test time zero h = absurd (cc)
 found_at test time (suc n) h = found_from test time n (test time) refl (found_at test (time + 1) n) h
 
-within_exactly : (test : ℕ → Bool) (s : Slice) → (any_passes test s.first (times_in s) ≡ true) ↔ PassesWithin test s
+pub within_exactly : (test : ℕ → Bool) (s : Slice) → (any_passes test s.first (times_in s) ≡ true) ↔ PassesWithin test s
 within_exactly test s = (
   λ h. let f = found_at test s.first (times_in s) h in let high = f.2 in (f.0, f.1, omega arith, f.3),
   λ f. let low = f.1 in let high = f.2 in not_none test s.first (times_in s) f.0 low (omega arith) f.3,
@@ -64,7 +64,7 @@ filled_some true true = refl
 filled_some true false = refl
 filled_some false all = refl
 
-sends_in : (pair : Pair) (s : Slice) (r : Row) → is_filled (row_filling pair Sends r s) ≡ any_passes (λ t. sendable pair t r) s.first (times_in s)
+pub sends_in : (pair : Pair) (s : Slice) (r : Row) → is_filled (row_filling pair Sends r s) ≡ any_passes (λ t. sendable pair t r) s.first (times_in s)
 unfolding filling
 sends_in pair s r = filled_some (any_passes (λ t. sendable pair t r) s.first (times_in s)) (all_pass (λ t. sendable pair t r) s.first (times_in s))
 

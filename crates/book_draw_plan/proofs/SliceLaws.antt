@@ -1,8 +1,7 @@
 -- Slices follow one another.
-use Rattle.std.proofs.Common.{◌≡◌, ℕ, zero, suc, ◌+◌, ◌-◌, ◌*◌, ◌/◌, ◌<◌, ◌≤◌, nat_lt, Bool, true, false, List, [], ◌∷◌, length, refl, sym, ap, ◌∙◌, subst, arith, if◌then◌else◌}
+use Rattle.std.proofs.Common.{◌≡◌, ℕ, zero, suc, ◌+◌, ◌-◌, ◌*◌, ◌/◌, ◌<◌, ◌≤◌, nat_lt, Bool, true, false, [], ◌∷◌, length, refl, arith, if◌then◌else◌}
 use Rattle.std.proofs.lemmas.Bool.Decides.{nat_tests}
 use Rattle.std.proofs.Math.Nat.{suc-mul}
-use Rattle.book_draw_plan.specs.declared.slice.Slice.{Slice}
 use Rattle.book_draw_plan.specs.Slices.{AreParts, most_slices, slice_width, slices_from, slices_of, slice_between}
 
 lt_fails : (a b : ℕ) → nat_lt a b ≡ false → b ≤ a

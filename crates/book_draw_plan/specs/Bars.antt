@@ -1,36 +1,30 @@
 -- The planned rollover of a connection as bars over time: a bar for each row and what it does, and
 -- a line that marks what is wrong. Our own format. Its top is `drawings_text`.
-use Rattle.std.specs.Prelude.{ℕ, ◌+◌, ◌&&◌, ◌||◌, nat_le, Bool, true, false, List, [], ◌∷◌, ◌++◌}
-use Rattle.std.specs.Prelude.{flat_map, codes, decimal, Option, Some, None, if◌then◌else◌}
+use Rattle.std.specs.Prelude.{ℕ, ◌+◌, ◌-◌, ◌&&◌, nat_le, nat_lt, Bool, true, false, List, [], ◌∷◌}
+use Rattle.std.specs.Prelude.{◌++◌, length, flat_map, codes, decimal, Option, Some, None}
+use Rattle.std.specs.Prelude.{option_map, if◌then◌else◌}
 use Rattle.std.specs.List.{list_any}
 use Rattle.book_base.specs.declared.address.Pair.{Pair}
 use Rattle.book_base.specs.declared.end.End.{End}
 use Rattle.book_base.specs.declared.end.End.TheVariants.{A, B}
+use Rattle.book_draw_plan.specs.declared.bar.Bar.{Bar}
 use Rattle.book_draw_plan.specs.declared.duty.Duty.{Duty}
 use Rattle.book_draw_plan.specs.declared.duty.Duty.TheVariants.{Accepts, Sends}
 use Rattle.book_draw_plan.specs.declared.duty.Filling.{Filling}
 use Rattle.book_draw_plan.specs.declared.duty.Filling.TheVariants.{Never, Partly, Wholly}
-use Rattle.book_draw_plan.specs.Slices.{filling, slice_between, slice_width, slices_of}
+use Rattle.book_draw_plan.specs.declared.slice.Slice.{Slice}
+use Rattle.book_draw_plan.specs.BarOrders.{bars_of, is_filled, plan_time, row_filling}
+use Rattle.book_draw_plan.specs.Slices.{slice_width, slices_of}
 use Rattle.book_keys.specs.declared.plan.Plan.{Plan}
 use Rattle.book_keys.specs.Plans.{mirrored}
-use Rattle.book_keys.specs.Rows.{Row, Table, acceptable, sendable}
+use Rattle.book_keys.specs.Rows.{Row, Table}
 use Rattle.book_lines.specs.Said.{Said}
 use Rattle.book_plans.specs.declared.finding.Finding.{Finding}
 use Rattle.book_plans.specs.declared.finding.Finding.TheVariants as finding
-use Rattle.book_draw_plan.specs.declared.slice.Slice.{Slice}
 use Rattle.book_scope_plan.specs.CalendarTexts.{row_numbered, side_of}
-use Rattle.book_scope_plan.specs.FindingTexts.{times_text}
-use Rattle.book_scope_plan.specs.PlanTexts.{connection_line, missing_text, node_with}
-use Rattle.book_scope_plan.specs.PlanTexts.{plan_findings}
-
--- the row may do this for the pair at the time (RFC 7210, section 3)
-abbrev pub is_doing : Pair → Duty → Row → ℕ → Bool
-is_doing pair Accepts r time = acceptable pair time r
-is_doing pair Sends r time = sendable pair time r
-
--- how what the row does fills a slice (own)
-abbrev pub row_filling : Pair → Duty → Row → Slice → Filling
-row_filling pair duty r s = filling (is_doing pair duty r) s
+use Rattle.book_scope_plan.specs.FindingTexts.{one_if, text_if, times_text}
+use Rattle.book_scope_plan.specs.PlanTexts.{connection_line, has_none, is_good_plan, missing_text}
+use Rattle.book_scope_plan.specs.PlanTexts.{node_with, plan_findings}
 
 -- the byte of a bar's slice: `#`, `+` or a space (own)
 abbrev pub filling_byte : Filling → ℕ
@@ -68,49 +62,6 @@ duty_text duty r = codes " (KeyID " ++ (decimal (duty_id duty r) ++ duty_words d
 unfoldable pub bar_label : (name : List ℕ) → ℕ → Duty → Row → List ℕ
 bar_label name n duty r =
     name ++ (codes " row " ++ (decimal n ++ duty_text duty r))
-
--- an end of a connection as it is drawn: its node's name, the pair as it sees it, the time that is
--- drawn, and the slices of that (own)
-pub record DrawnEnd : Type 0 where
-  pub name : List ℕ
-  pub pair : Pair
-  pub time : Slice
-  pub slices : List Slice
-
--- an end of this name that sees the pair so, over the time of a plan (own)
-abbrev pub end_drawn : (name : List ℕ) → Pair → Plan → DrawnEnd
-end_drawn name pair plan = record {
-  name = name;
-  pair = pair;
-  time = slice_between plan.from plan.to;
-  slices = slices_of plan.from plan.to;
-}
-
--- the bar of a row of this number (own)
-abbrev pub bar_text : DrawnEnd → ℕ → Row → Duty → List ℕ
-bar_text e n r duty = bar_line (bar_bytes e.pair duty r e.slices) (bar_label e.name n duty r)
-
--- something is filled at all (own)
-abbrev pub is_filled : Filling → Bool
-is_filled Never = false
-is_filled Partly = true
-is_filled Wholly = true
-
--- the row does this at some time that is drawn (own)
-abbrev pub is_doing_within : DrawnEnd → Row → Duty → Bool
-is_doing_within e r duty = is_filled (row_filling e.pair duty r e.time)
-
--- the bars of a row of this number, where it does something (own)
-abbrev pub row_bars : DrawnEnd → ℕ → Row → List ℕ
-row_bars e n r =
-    if is_doing_within e r Accepts || is_doing_within e r Sends then
-    bar_text e n r Accepts ++ bar_text e n r Sends
-    else []
-
--- the bars of rows of an end, the first having number n (own)
-abbrev pub end_bars : DrawnEnd → ℕ → List Row → List ℕ
-end_bars e n [] = []
-end_bars e n (r ∷ rs) = row_bars e n r ++ end_bars e (n + 1) rs
 
 -- the pair as this end sees it, which is given as end a does (own)
 abbrev pub pair_at : End → Pair → Pair
@@ -162,13 +113,55 @@ scale_words plan =
 unfoldable pub scale_line : Plan → List ℕ
 scale_line plan = codes "  " ++ (scale_words plan ++ 10 ∷ [])
 
+-- a bar with what is drawn of it: its node's name, the pair as that sees it, the time that is
+-- drawn, the number of its row, the row, and what of it the bar shows (own)
+pub record ShownBar : Type 0 where
+  pub name : List ℕ
+  pub pair : Pair
+  pub time : Slice
+  pub number : ℕ
+  pub row : Row
+  pub duty : Duty
+
+-- a bar of this row of a node of this name, which sees the pair so (own)
+abbrev pub bar_shown : (name : List ℕ) → Pair → Slice → Bar → Row → ShownBar
+bar_shown name pair time bar r = record {
+  name = name;
+  pair = pair;
+  time = time;
+  number = bar.number;
+  row = r;
+  duty = bar.duty;
+}
+
+-- a bar of the nodes of these tables as it is drawn, where its row is there (own)
+abbrev pub shown_bar : (a b : Table) → Pair → Slice → Bar → Option ShownBar
+shown_bar a b pair time bar =
+    option_map (bar_shown (side_of bar.end a b).name (pair_at bar.end pair) time bar)
+    (row_numbered (side_of bar.end a b).rows bar.number)
+
+-- the line of a bar over these slices (own)
+abbrev pub drawn_bar : List Slice → Option ShownBar → List ℕ
+drawn_bar slices None = []
+drawn_bar slices (Some s) =
+    bar_line (bar_bytes s.pair s.duty s.row slices) (bar_label s.name s.number s.duty s.row)
+
+-- the line of a bar (own)
+abbrev pub bar_text : (a b : Table) → Pair → Plan → Bar → List ℕ
+bar_text a b pair plan bar =
+    drawn_bar (slices_of plan.from plan.to) (shown_bar a b pair (plan_time plan) bar)
+
+-- the line that marks what is wrong, where something is (own)
+abbrev pub wrong_text : (a b : Table) → Pair → Plan → List Finding → List ℕ
+wrong_text a b pair plan fs =
+    if has_none fs then []
+    else bar_line (wrong_bytes a b pair fs (slices_of plan.from plan.to)) (codes "wrong")
+
 -- the bars of a connection between two nodes, and below them what is wrong (own)
 unfoldable pub both_bars : (a b : Table) → Pair → Plan → List Finding → List ℕ
 both_bars a b pair plan fs =
     scale_line plan
-    ++ (end_bars (end_drawn a.name pair plan) 1 a.rows
-    ++ (end_bars (end_drawn b.name (mirrored pair) plan) 1 b.rows
-    ++ bar_line (wrong_bytes a b pair fs (slices_of plan.from plan.to)) (codes "wrong")))
+    ++ (flat_map (bar_text a b pair plan) (bars_of a b pair plan) ++ wrong_text a b pair plan fs)
 
 -- the bars of a connection by the nodes of its ends (own)
 abbrev pub nodes_bars : (a b : Option Table) → List Table → Plan → Pair → List ℕ
@@ -184,6 +177,24 @@ drawing_text tables plan pair =
     ++ nodes_bars (node_with tables pair.local.address) (node_with tables pair.remote.address)
     tables plan pair
 
--- the connections as they are drawn, one after another (own)
+-- of how many of the connections nothing is wrong with the plan (own)
+abbrev pub good_plans : List Table → Plan → List (Said Pair) → ℕ
+good_plans tables plan [] = 0
+good_plans tables plan (s ∷ said) =
+    one_if (is_good_plan tables plan s.value) + good_plans tables plan said
+
+-- how many connections there are, and how many are wrong, where with so many nothing is (own)
+unfoldable pub summary_words : (all good : ℕ) → List ℕ
+summary_words all good =
+    (decimal all ++ codes " connections, ")
+    ++ (decimal (all - good) ++ codes " of them wrong")
+
+-- the line that says so, where there are two or more (own)
+unfoldable pub summary_line : (all good : ℕ) → List ℕ
+summary_line all good = text_if (nat_lt 1 all) (summary_words all good ++ 10 ∷ [])
+
+-- the connections as they are drawn, one after another, and above them how many they are (own)
 unfoldable pub drawings_text : List Table → Plan → List (Said Pair) → List ℕ
-drawings_text tables plan said = flat_map (λ s. drawing_text tables plan s.value) said
+drawings_text tables plan said =
+    summary_line (length said) (good_plans tables plan said)
+    ++ flat_map (λ s. drawing_text tables plan s.value) said

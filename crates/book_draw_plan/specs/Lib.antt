@@ -1,3 +1,4 @@
+pub mod BarOrders
 pub mod Bars
 pub mod Slices
 pub mod Wrongs

@@ -1,16 +1,18 @@
 //! Theorems about bars, as clauses of functions that do nothing.
-ghost use Rattle.std.specs.Prelude.{◌≡◌, ◌↔◌, ◌≤◌, ◌<◌, ◌+◌, ℕ, List, [], ◌∷◌, Some, true, false, length};
+ghost use Rattle.std.specs.Prelude.{◌≡◌, ◌↔◌, ◌≤◌, ◌<◌, ◌+◌, ℕ, List, [], ◌∷◌, Some, true, false, length, slice_get};
+ghost use Rattle.book_base.specs.declared.end.End.TheVariants as end;
 ghost use Rattle.book_base.specs.declared.address.Pair.{Pair};
 ghost use Rattle.book_draw_plan.specs.declared.duty.Duty.{Duty as Doing};
 ghost use Rattle.book_draw_plan.specs.declared.duty.Filling.TheVariants.{Never, Wholly};
-ghost use Rattle.book_draw_plan.specs.Bars.{is_doing, row_filling, slice_mark};
+ghost use Rattle.book_draw_plan.specs.BarOrders.{HasPart, bars_of, is_doing, row_filling, sending_bars, oneway_from};
+ghost use Rattle.book_draw_plan.specs.Bars.{slice_mark};
 ghost use Rattle.book_draw_plan.specs.Slices.{AreParts, most_slices, slices_of};
 ghost use Rattle.book_draw_plan.specs.Wrongs.{PassesWithin, is_wrong_at};
 ghost use Rattle.book_draw_plan.specs.declared.slice.Slice.{Slice as Part};
 ghost use Rattle.book_keys.specs.declared.lint.LintAnswer.TheVariants as answer;
 ghost use Rattle.book_keys.specs.declared.plan.Plan.{Plan};
 ghost use Rattle.book_keys.specs.Plans.{lint_of};
-ghost use Rattle.book_keys.specs.Rows.{Row, Table};
+ghost use Rattle.book_keys.specs.Rows.{Row, Table, row_limit};
 ghost use Rattle.book_scope_plan.specs.PlanTexts.{node_with, plan_findings};
 
 /// A slice of a bar is filled exactly where the row does this at every second of the slice, and blank
@@ -22,6 +24,23 @@ pub fn bars_are_of_the_rows()
     ensures never { (pair : Pair) (duty : Doing) (r : Row) (s : Part)
         → (row_filling pair duty r s ≡ Never)
         ↔ ((t : ℕ) → s.first ≤ t → t ≤ s.last → is_doing pair duty r t ≡ false) }
+{}
+
+/// A connection between two nodes has at most 8,448 bars: for each way one for each of the 64 rows that may
+/// send, each with one for each of the 64 that may accept, and once more one for each of these.
+pub fn bars_are_few()
+    ensures { (a b : Table) (pair : Pair) (plan : Plan) → length a.rows ≤ row_limit → length b.rows ≤ row_limit
+        → length (bars_of a b pair plan) ≤ 8448 }
+{}
+
+/// What must be compared stands side by side: among the bars of a connection is, of each row of an end, the part
+/// that `sending_bars` says: where the row may send in the time its bar, and right after it the bars of exactly the
+/// rows of the other end that accept under its SendID at a time of it.
+pub fn what_is_compared_is_together()
+    ensures there { (a b : Table) (pair : Pair) (plan : Plan) (k : ℕ) (r : Row) → slice_get a.rows k ≡ Some r
+        → HasPart (sending_bars (oneway_from end.A b.rows pair plan) (1 + k) r) (bars_of a b pair plan) }
+    ensures back { (a b : Table) (pair : Pair) (plan : Plan) (k : ℕ) (r : Row) → slice_get b.rows k ≡ Some r
+        → HasPart (sending_bars (oneway_from end.B a.rows pair plan) (1 + k) r) (bars_of a b pair plan) }
 {}
 
 /// The slices of a time follow one another from its first second to its last, each with a second of its

@@ -3,12 +3,17 @@
 //! the empty functions carry theorems about them.
 #![tactic(auto)]
 
+mod bar;
 mod duty;
 mod form;
 mod laws;
 mod slice;
 
+pub use bar::Bar;
 pub use duty::{Duty, Filling};
 pub use form::PlanForm;
-pub use laws::{bars_are_of_the_rows, marks_are_of_the_plan, slices_are_of_the_time};
+pub use laws::{
+    bars_are_few, bars_are_of_the_rows, marks_are_of_the_plan, slices_are_of_the_time,
+    what_is_compared_is_together,
+};
 pub use slice::Slice;

@@ -1,17 +1,22 @@
 -- Which seconds a bar shows, and where they stand.
-use Rattle.std.proofs.Common.{◌≡◌, ◌↔◌, ℕ, ◌+◌, ◌-◌, ◌*◌, ◌/◌, ◌<◌, ◌≤◌, max, min, nat_le, Bool, true, false, ◌&&◌, Option, Some, None, refl, arith, if◌then◌else◌}
+use Rattle.std.proofs.Common.{◌≡◌, ◌↔◌, ℕ, ◌+◌, ◌-◌, ◌*◌, ◌/◌, ◌<◌, ◌≤◌, max, min, nat_le, Bool, true, false, ◌&&◌, Option, Some, None, refl, sym, subst, ◌∙◌, arith, if◌then◌else◌}
 use Rattle.std.proofs.lemmas.Bool.Decides.{nat_tests}
 use Rattle.std.proofs.Math.Nat.{div-mul-le_self, le-div_iff_mul-le, mul-div_cancel_left, zero-div}
 use Rattle.book_base.specs.declared.address.Pair.{Pair}
 use Rattle.book_draw_plan.specs.declared.duty.Duty.{Duty}
 use Rattle.book_draw_plan.specs.declared.duty.Duty.TheVariants.{Accepts, Sends}
 use Rattle.book_draw_plan.specs.declared.slice.Slice.{Slice}
-use Rattle.book_draw_plan.specs.Bars.{is_doing}
-use Rattle.book_draw_plan.specs.Slices.{slice_between}
-use Rattle.book_draw_plan_svg.specs.Spans.{IsWithin, bar_span, common_span, time_column}
+use Rattle.book_draw_plan.specs.BarOrders.{is_doing}
+use Rattle.book_draw_plan.specs.Bars.{is_seen, may_send_in, pair_at}
+use Rattle.book_draw_plan.specs.Slices.{any_passes, slice_between, times_in}
+use Rattle.book_draw_plan.proofs.MarkLaws.{sends_in, within_exactly}
+use Rattle.book_draw_plan_svg.specs.Spans.{IsWithin, bar_span, common_span, finding_span, sending_span, time_column}
 use Rattle.book_keys.specs.declared.lifetime.Lifetime.{Lifetime}
 use Rattle.book_keys.specs.Lifetimes.{contains}
-use Rattle.book_keys.specs.Rows.{Row, matches, receives, sends}
+use Rattle.book_keys.specs.Rows.{Row, Table, matches, receives, sendable, sends}
+use Rattle.book_plans.specs.declared.finding.Finding.{Finding}
+use Rattle.book_plans.specs.declared.finding.Finding.TheVariants as finding
+use Rattle.book_scope_plan.specs.CalendarTexts.{row_numbered, side_of}
 
 le_holds : (x y : ℕ) → nat_le x y ≡ true → x ≤ y
 le_holds x y h = grind (arith, nat_tests)
@@ -59,6 +64,45 @@ pub span_exactly : (pair : Pair) (duty : Duty) (r : Row) (time : Slice) (t : ℕ
     → (is_doing pair duty r t ≡ true) ↔ IsWithin (bar_span pair duty r time) t
 span_exactly pair Accepts r time t low high = by_row (matches r pair) (receives r.direction) r.accepting time t low high
 span_exactly pair Sends r time t low high = by_row (matches r pair) (sends r.direction) r.sending time t low high
+
+-- ---- findings
+
+one_second : (test : ℕ → Bool) (t : ℕ) → (any_passes test t (times_in (slice_between t t)) ≡ true) ↔ (test t ≡ true)
+one_second test t = (
+  λ h.
+      let f = (within_exactly test (slice_between t t)).0 h in
+      let low = f.1 in
+      let high = f.2 in
+      let same : f.0 ≡ t = omega arith in
+      subst (λ (u : ℕ). test u ≡ true) same f.3,
+  λ p. (within_exactly test (slice_between t t)).1 (t, omega arith, omega arith, p),
+)
+
+sending_second : (pair : Pair) (time : Slice) (t : ℕ) → time.first ≤ t → t ≤ time.last → (row : Option Row)
+    → (may_send_in pair (slice_between t t) row ≡ true) ↔ IsWithin (sending_span pair time row) t
+sending_second pair time t low high None = (λ h. absurd (cc), λ w. absurd w)
+sending_second pair time t low high (Some r) =
+    let one = one_second (λ u. sendable pair u r) t in
+    let span = span_exactly pair Sends r time t low high in (
+      λ h. span.0 (one.0 (sym (sends_in pair (slice_between t t) r) ∙ h)),
+      λ w. sends_in pair (slice_between t t) r ∙ one.1 (span.1 w),
+    )
+
+pub finding_exactly : (a b : Table) (pair : Pair) (time : Slice) (f : Finding) (t : ℕ) → time.first ≤ t → t ≤ time.last
+    → (is_seen a b pair (slice_between t t) f ≡ true) ↔ IsWithin (finding_span a b pair time f) t
+finding_exactly a b pair time (finding.NoPeerRow end n) t low high =
+    sending_second (pair_at end pair) time t low high (row_numbered (side_of end a b).rows n)
+finding_exactly a b pair time (finding.ShortAccept end n) t low high =
+    sending_second (pair_at end pair) time t low high (row_numbered (side_of end a b).rows n)
+finding_exactly a b pair time (finding.Gap end first last) t low high = (
+  λ h. let both = and_both (nat_le first t) (nat_le t last) h in (le_holds first t both.0, le_holds t last both.1),
+  λ w.
+      let one = w.0 in
+      let two = w.1 in
+      let early : nat_le first t ≡ true = grind (arith, nat_tests) in
+      let late : nat_le t last ≡ true = grind (arith, nat_tests) in
+      rw (early, late) refl,
+)
 
 -- ---- columns
 

@@ -1,3 +1,5 @@
+pub mod Dates
 pub mod PlanLines
 pub mod PlanPictures
+pub mod RowNames
 pub mod Spans

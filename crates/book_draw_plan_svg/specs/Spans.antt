@@ -1,16 +1,18 @@
--- Where a time stands in a picture, and which times a bar shows and marks cover. Its tops are
--- `time_column`, `bar_span` and `marked_slices`.
-use Rattle.std.specs.Prelude.{◌≡◌, ℕ, ◌+◌, ◌-◌, ◌*◌, ◌/◌, ◌≤◌, ◌==◌, ◌&&◌, max, min, nat_le, Bool}
-use Rattle.std.specs.Prelude.{List, [], ◌∷◌, Option, Some, None, if◌then◌else◌}
+-- Where a time stands in a picture, and which times a bar and a mark show. Its tops are
+-- `time_column`, `bar_span` and `finding_span`.
+use Rattle.std.specs.Prelude.{ℕ, ◌+◌, ◌-◌, ◌*◌, ◌/◌, ◌≤◌, ◌&&◌, max, min, nat_le, Bool, Option}
+use Rattle.std.specs.Prelude.{Some, None, if◌then◌else◌}
 use Rattle.book_base.specs.declared.address.Pair.{Pair}
 use Rattle.book_draw_plan.specs.declared.duty.Duty.{Duty}
 use Rattle.book_draw_plan.specs.declared.duty.Duty.TheVariants.{Accepts, Sends}
 use Rattle.book_draw_plan.specs.declared.slice.Slice.{Slice}
-use Rattle.book_draw_plan.specs.Bars.{is_marked}
+use Rattle.book_draw_plan.specs.Bars.{pair_at}
 use Rattle.book_draw_plan.specs.Slices.{slice_between}
-use Rattle.book_draw_plan_svg.specs.PlanLines.{PlannedPair}
 use Rattle.book_keys.specs.declared.lifetime.Lifetime.{Lifetime}
-use Rattle.book_keys.specs.Rows.{Row, matches, receives, sends_for}
+use Rattle.book_keys.specs.Rows.{Row, Table, matches, receives, sends_for}
+use Rattle.book_plans.specs.declared.finding.Finding.{Finding}
+use Rattle.book_plans.specs.declared.finding.Finding.TheVariants as finding
+use Rattle.book_scope_plan.specs.CalendarTexts.{row_numbered, side_of}
 
 -- how wide a whole time is drawn (own)
 abbrev pub time_width : ℕ
@@ -53,14 +55,16 @@ abbrev pub IsWithin : Option Slice → ℕ → Type 0
 IsWithin None time = ⊥
 IsWithin (Some s) time = (s.first ≤ time) × (time ≤ s.last)
 
--- the slices in which one of the findings is seen (own)
-abbrev pub marked_slices : PlannedPair → List Slice → List Slice
-marked_slices j [] = []
-marked_slices j (s ∷ ss) =
-    if is_marked j.a j.b j.pair j.findings s then s ∷ marked_slices j ss else marked_slices j ss
+-- the seconds of a time in which the row that was found may send (RFC 7210, section 3)
+abbrev pub sending_span : Pair → Slice → Option Row → Option Slice
+sending_span pair time None = None
+sending_span pair time (Some r) = bar_span pair Sends r time
 
--- the slices over which a line of text, a byte for each, has this byte (own)
-abbrev pub slices_under : (byte : ℕ) → (line : List ℕ) → List Slice → List Slice
-slices_under byte (b ∷ bs) (s ∷ ss) =
-    if b == byte then s ∷ slices_under byte bs ss else slices_under byte bs ss
-slices_under byte bs ss = []
+-- the seconds of a time at which the finding is so: those in which the row that isn't met may send,
+-- or the gap (own)
+abbrev pub finding_span : (a b : Table) → Pair → Slice → Finding → Option Slice
+finding_span a b pair time (finding.NoPeerRow end n) =
+    sending_span (pair_at end pair) time (row_numbered (side_of end a b).rows n)
+finding_span a b pair time (finding.ShortAccept end n) =
+    sending_span (pair_at end pair) time (row_numbered (side_of end a b).rows n)
+finding_span a b pair time (finding.Gap end first last) = Some (slice_between first last)

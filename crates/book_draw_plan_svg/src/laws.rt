@@ -1,23 +1,31 @@
 //! Theorems about the pictures of plans, as clauses of functions that do nothing.
-ghost use Rattle.std.specs.Prelude.{◌≡◌, ◌↔◌, ◌≤◌, ◌+◌, ℕ, List, map, flat_map, true};
+ghost use Rattle.std.specs.Prelude.{◌≡◌, ◌↔◌, ◌≤◌, ◌+◌, ◌++◌, ℕ, List, length, flat_map, true};
 ghost use Rattle.book_base.specs.declared.address.Pair.{Pair};
 ghost use Rattle.book_draw_plan.specs.declared.duty.Duty.{Duty as Doing};
 ghost use Rattle.book_draw_plan.specs.declared.slice.Slice.{Slice as Part};
-ghost use Rattle.book_draw_plan.specs.Bars.{drawings_text, is_doing, wrong_bytes};
-ghost use Rattle.book_draw_plan_svg.specs.PlanLines.{PlannedPair, drawings_lines, plan_line_text};
-ghost use Rattle.book_draw_plan_svg.specs.Spans.{IsWithin, bar_span, marked_slices, slices_under, time_column};
+ghost use Rattle.book_draw_plan.specs.BarOrders.{is_doing};
+ghost use Rattle.book_draw_plan.specs.Bars.{drawings_text, good_plans, is_seen, summary_line};
+ghost use Rattle.book_draw_plan.specs.Slices.{slice_between};
+ghost use Rattle.book_draw_plan_svg.specs.PlanLines.{drawings_lines, plan_line_text};
+ghost use Rattle.book_draw_plan_svg.specs.Spans.{IsWithin, bar_span, finding_span, time_column};
 ghost use Rattle.book_keys.specs.declared.plan.Plan.{Plan};
 ghost use Rattle.book_keys.specs.Rows.{Row, Table};
 ghost use Rattle.book_lines.specs.Said.{Said};
+ghost use Rattle.book_plans.specs.declared.finding.Finding.{Finding};
 
-/// The text of bars is that of the lines that a picture draws, one after another: so a picture has the bars
-/// of the text in order, of the same rows and of what they do, and no other. The slices that it marks are
-/// those under which the text has `!`.
+/// The text of bars is that of the lines that a picture draws, one after another, below how many connections
+/// there are: so a picture has the bars of the text in order, of the same rows and of what they do, and no other.
 pub fn pictures_are_of_the_text()
-    ensures lines { (tables : List Table) (plan : Plan) (said : List (Said Pair))
-        → flat_map (plan_line_text plan) (drawings_lines tables plan (map (λ s. s.value) said)) ≡ drawings_text tables plan said }
-    ensures marks { (j : PlannedPair) (slices : List Part)
-        → slices_under 33 (wrong_bytes j.a j.b j.pair j.findings slices) slices ≡ marked_slices j slices }
+    ensures { (tables : List Table) (plan : Plan) (said : List (Said Pair))
+        → summary_line (length said) (good_plans tables plan said) ++ flat_map (plan_line_text plan) (drawings_lines tables plan said)
+        ≡ drawings_text tables plan said }
+{}
+
+/// A mark shows exactly the seconds of the time that is drawn at which its finding is seen: at which the row that
+/// isn't met may send, or which are of the gap.
+pub fn marks_show_the_findings()
+    ensures { (a b : Table) (pair : Pair) (time : Part) (f : Finding) (t : ℕ) → time.first ≤ t → t ≤ time.last
+        → (is_seen a b pair (slice_between t t) f ≡ true) ↔ IsWithin (finding_span a b pair time f) t }
 {}
 
 /// A bar shows exactly the seconds of the time that is drawn in which its row does so; `is_doing` is

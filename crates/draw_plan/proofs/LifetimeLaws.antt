@@ -1,5 +1,5 @@
 -- How a lifetime fills a slice, by its first and its last time.
-use Rattle.std.proofs.Common.{◌≡◌, ℕ, ◌+◌, ◌-◌, ◌<◌, ◌≤◌, max, min, Bool, true, false, ◌&&◌, ◌⊎◌, inl, inr, refl, arith, nat_le, if◌then◌else◌}
+use Rattle.std.proofs.Common.{◌≡◌, ℕ, ◌+◌, ◌-◌, ◌<◌, ◌≤◌, max, min, Bool, true, false, ◌&&◌, inl, inr, refl, arith, nat_le}
 use Rattle.std.proofs.lemmas.Bool.Decides.{nat_tests}
 use Rattle.std.proofs.lemmas.Bool.{cases_lt}
 use Rattle.book_base.specs.declared.address.Pair.{Pair}
@@ -7,11 +7,10 @@ use Rattle.book_keys.specs.declared.lifetime.Lifetime.{Lifetime}
 use Rattle.book_keys.specs.Lifetimes.{contains}
 use Rattle.book_keys.specs.Rows.{Row, matches, receives, sends}
 use Rattle.book_draw_plan.specs.declared.duty.Duty.TheVariants.{Accepts, Sends}
-use Rattle.book_draw_plan.specs.declared.duty.Filling.{Filling}
-use Rattle.book_draw_plan.specs.declared.duty.Filling.TheVariants.{Never, Partly, Wholly}
+use Rattle.book_draw_plan.specs.declared.duty.Filling.TheVariants.{Never}
 use Rattle.book_draw_plan.specs.declared.slice.Slice.{Slice}
-use Rattle.book_draw_plan.specs.Bars.{row_filling}
-use Rattle.book_draw_plan.specs.Slices.{all_pass, any_passes, filled_by, filling}
+use Rattle.book_draw_plan.specs.BarOrders.{row_filling}
+use Rattle.book_draw_plan.specs.Slices.{all_pass, filled_by, filling}
 use Rattle.book_draw_plan.proofs.FillingLaws.{all_true, any_false, not_all, not_none, never_exactly}
 use Rattle.draw_plan.specs.Lifetimes.{covers, overlaps}
 

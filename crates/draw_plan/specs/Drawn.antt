@@ -1,7 +1,26 @@
--- An end as it is drawn, as the book has it.
+-- What is drawn, as the book has it.
+use Rattle.book_draw_plan.specs.BarOrders as orders
 use Rattle.book_draw_plan.specs.Bars as book
-use Rattle.draw_plan.specs.declared.bars.DrawnEnd.{DrawnEnd}
+use Rattle.draw_plan.specs.declared.order.OneWay.{OneWay}
+use Rattle.draw_plan.specs.declared.shown.ShownBar.{ShownBar}
 
--- the book's form of what the code holds
-abbrev pub drawn_of : DrawnEnd → book.DrawnEnd
-drawn_of e = record { name = e.name.now; pair = e.pair; time = e.time; slices = e.slices.now }
+-- the book's form of one way over a connection
+abbrev pub way_of : OneWay → orders.OneWay
+way_of w = record {
+  sender = w.sender;
+  pair = w.pair;
+  facing = w.facing;
+  time = w.time;
+  others = w.others.now;
+}
+
+-- the book's form of a bar with what is drawn of it
+abbrev pub shown_of : ShownBar → book.ShownBar
+shown_of s = record {
+  name = s.name.now;
+  pair = s.pair;
+  time = s.time;
+  number = s.number;
+  row = s.row.now;
+  duty = s.duty;
+}

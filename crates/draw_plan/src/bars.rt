@@ -1,25 +1,19 @@
-//! The bars of the rows of an end.
-ghost use Rattle.std.specs.Prelude.{◌≡◌, ◌++◌, ◌≤◌, OnOk, length};
-ghost use Rattle.book_draw_plan.specs.Bars.{bar_byte, bar_bytes, bar_label, bar_text, duty_id, duty_text, duty_words, end_bars, filling_byte, is_doing_within, row_bars};
-ghost use Rattle.book_keys.specs.Rows.{row_limit};
-ghost use Rattle.draw_plan.specs.Drawn.{drawn_of};
+//! The lines of bars.
+ghost use Rattle.std.specs.Prelude.{◌≡◌, ◌++◌, OnOk, flat_map, option_map};
+ghost use Rattle.book_draw_plan.specs.Bars.{bar_byte, bar_bytes, bar_label, bar_text, duty_id, duty_text, duty_words, filling_byte, drawn_bar};
+ghost use Rattle.book_draw_plan.specs.Slices.{slices_of};
+ghost use Rattle.draw_plan.specs.Drawn.{shown_of};
 
-use crate::fillings::{is_filled, row_filling};
+use crate::fillings::row_filling;
+use crate::order::plan_time;
+use crate::shown::ShownBar;
+use crate::wrong::Connected;
 use ao_base::push_decimal;
 use book_base::Pair;
-use book_draw_plan::{Duty, Filling, Slice};
+use book_draw_plan::{Bar, Duty, Filling, Slice};
+use book_keys::Plan;
 use key_table::Row;
 use std::alloc::AllocError;
-
-/// An end as it is drawn: its node's name, the pair as it sees it, the time that is drawn, and the slices
-/// of that.
-#[derive(Clone, Copy)]
-pub struct DrawnEnd<'a> {
-    pub name: &'a [u8],
-    pub pair: Pair,
-    pub time: Slice,
-    pub slices: &'a [Slice],
-}
 
 fn filling_byte(filling: Filling) -> u8
     ensures { result ≡ filling_byte filling }
@@ -80,7 +74,7 @@ fn duty_words(duty: Duty) -> &'static [u8]
     }
 }
 
-/// Puts what a row does behind `out`, with the KeyID under which it does. An error only for want of memory.
+/// Puts what a row does behind `out`, with the KeyID under which it does. An error only when out of memory.
 #[tactic(auto, unfolding(book_draw_plan::specs::Bars::duty_text))]
 pub fn push_duty(out: &mut Vec<u8>, duty: Duty, row: &Row) -> Result<(), AllocError>
     ensures { OnOk result (out.new.items ≡ out.old.items ++ duty_text duty row.now) }
@@ -107,55 +101,51 @@ fn push_label(
     push_duty(out, duty, row)
 }
 
-/// The bar of a row.
+/// The line of a bar over these slices.
 #[tactic(auto, unfolding(book_draw_plan::specs::Bars::bar_line))]
-fn push_bar(
-    out: &mut Vec<u8>,
-    end: &DrawnEnd,
-    number: u8,
-    row: &Row,
-    duty: Duty,
-) -> Result<(), AllocError>
-    ensures { OnOk result (out.new.items ≡ out.old.items ++ bar_text (drawn_of end.now) number row.now duty) }
+fn push_shown(out: &mut Vec<u8>, slices: &[Slice], bar: Option<ShownBar>) -> Result<(), AllocError>
+    ensures { OnOk result (out.new.items ≡ out.old.items ++ drawn_bar slices.now (option_map shown_of bar.entry)) }
 {
-    out.extend_from_slice(b"  |")?;
-    push_bar_bytes(out, &end.pair, duty, row, end.slices)?;
-    out.extend_from_slice(b"| ")?;
-    push_label(out, end.name, number, duty, row)?;
-    out.push(b'\n')?;
-    Ok(())
-}
-
-/// Whether the row does this at some time that is drawn.
-pub fn is_doing_within(end: &DrawnEnd, row: &Row, duty: Duty) -> bool
-    ensures { result ≡ is_doing_within (drawn_of end.now) row.now duty }
-{
-    is_filled(row_filling(&end.pair, duty, row, &end.time))
-}
-
-/// The bars of a row, where it does something.
-fn push_row_bars(out: &mut Vec<u8>, end: &DrawnEnd, number: u8, row: &Row) -> Result<(), AllocError>
-    ensures { OnOk result (out.new.items ≡ out.old.items ++ row_bars (drawn_of end.now) number row.now) }
-{
-    if is_doing_within(end, row, Duty::Accepts) || is_doing_within(end, row, Duty::Sends) {
-        push_bar(out, end, number, row, Duty::Accepts)?;
-        push_bar(out, end, number, row, Duty::Sends)
-    } else {
-        Ok(())
+    match bar {
+        None => Ok(()),
+        Some(bar) => {
+            out.extend_from_slice(b"  |")?;
+            push_bar_bytes(out, &bar.pair, bar.duty, bar.row, slices)?;
+            out.extend_from_slice(b"| ")?;
+            push_label(out, bar.name, bar.number, bar.duty, bar.row)?;
+            out.push(b'\n')?;
+            Ok(())
+        }
     }
 }
 
-/// The bars of the rows of an end.
-pub(crate) fn push_end_bars(
+/// The line of a bar of a plan, whose time has these slices.
+fn push_bar(
     out: &mut Vec<u8>,
-    end: &DrawnEnd,
-    rows: &[Row],
+    ends: &Connected,
+    plan: &Plan,
+    slices: &[Slice],
+    bar: Bar,
 ) -> Result<(), AllocError>
-    requires { length rows.now ≤ row_limit }
-    ensures { OnOk result (out.new.items ≡ out.old.items ++ end_bars (drawn_of end.now) 1 rows.now) }
+    requires { slices.now ≡ slices_of plan.now.from plan.now.to }
+    ensures { OnOk result (out.new.items ≡ out.old.items ++ bar_text ends.now.tables.a.now ends.now.tables.b.now ends.now.pair plan.now bar) }
 {
-    for (i, row) in rows.iter().enumerate() {
-        push_row_bars(out, end, (i + 1) as u8, row)?;
+    push_shown(out, slices, ends.shown(&plan_time(plan), bar))
+}
+
+/// The lines of these bars.
+pub(crate) fn push_bar_lines(
+    out: &mut Vec<u8>,
+    ends: &Connected,
+    plan: &Plan,
+    slices: &[Slice],
+    bars: &[Bar],
+) -> Result<(), AllocError>
+    requires { slices.now ≡ slices_of plan.now.from plan.now.to }
+    ensures { OnOk result (out.new.items ≡ out.old.items ++ flat_map (bar_text ends.now.tables.a.now ends.now.tables.b.now ends.now.pair plan.now) bars.now) }
+{
+    for bar in bars {
+        push_bar(out, ends, plan, slices, *bar)?;
     }
     Ok(())
 }

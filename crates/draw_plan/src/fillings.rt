@@ -1,7 +1,7 @@
 //! How a row fills a slice, by the first and the last second of its lifetimes.
 ghost use Rattle.std.specs.Prelude.{◌≡◌};
 ghost use Rattle.book_draw_plan.specs.declared.duty.Duty.TheVariants.{Accepts as accepts, Sends as sends_out};
-ghost use Rattle.book_draw_plan.specs.Bars.{is_filled, row_filling};
+ghost use Rattle.book_draw_plan.specs.BarOrders.{is_filled, row_filling};
 ghost use Rattle.book_draw_plan.specs.Slices.{filled_by};
 ghost use Rattle.draw_plan.specs.Lifetimes.{covers, overlaps};
 

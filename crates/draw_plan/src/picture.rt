@@ -1,24 +1,21 @@
 //! The bars of a connection.
-ghost use Rattle.std.specs.Prelude.{◌≡◌, ◌++◌, OnOk, codes};
-ghost use Rattle.book_draw_plan.specs.Bars.{bar_line, both_bars, end_drawn, end_bars, scale_line, scale_words, wrong_bytes};
+ghost use Rattle.std.specs.Prelude.{◌≡◌, ◌++◌, OnOk, codes, decimal};
+ghost use Rattle.book_draw_plan.specs.Bars.{bar_line, both_bars, scale_line, scale_words, summary_line, summary_words, wrong_bytes, wrong_text};
 ghost use Rattle.book_draw_plan.specs.Slices.{slices_of};
 
-use crate::bars::{DrawnEnd, push_end_bars};
+use crate::bars::push_bar_lines;
+use crate::order::bars_of;
 use crate::slices::{slice_width, slices_of};
 use crate::wrong::{Connected, push_wrong_bytes};
 use ao_base::push_decimal;
-use book_base::Pair;
 use book_draw_plan::Slice;
 use book_keys::Plan;
 use book_plans::Finding;
-use both_ends::BothEnds;
-use key_table::{Table, mirrored};
 use plan_texts::push_times;
 use std::alloc::{AllocError, Global};
 
-/// Puts behind `out` from when to when the bars go, and how many seconds a slice has. An error only for want of
-/// memory.
-pub fn push_scale_words(out: &mut Vec<u8>, plan: &Plan) -> Result<(), AllocError>
+/// From when to when the bars go, and how many seconds a slice has.
+fn push_scale_words(out: &mut Vec<u8>, plan: &Plan) -> Result<(), AllocError>
     ensures { OnOk result (out.new.items ≡ out.old.items ++ scale_words plan.now) }
 {
     push_times(out, plan.from, plan.to)?;
@@ -39,29 +36,35 @@ fn push_scale(out: &mut Vec<u8>, plan: &Plan) -> Result<(), AllocError>
     Ok(())
 }
 
-/// The bars of the node of an end, over the time of a plan, which has these slices.
-fn push_node_bars(
-    out: &mut Vec<u8>,
-    node: &Table,
-    pair: &Pair,
-    plan: &Plan,
-    slices: &[Slice],
-) -> Result<(), AllocError>
-    requires { slices.now ≡ slices_of plan.now.from plan.now.to }
-    ensures { OnOk result (out.new.items ≡ out.old.items ++ end_bars (end_drawn node.now.name pair.now plan.now) 1 node.now.rows) }
+/// A number and what it counts.
+fn push_count(out: &mut Vec<u8>, number: u32, words: &[u8]) -> Result<(), AllocError>
+    ensures { OnOk result (out.new.items ≡ out.old.items ++ (decimal number ++ words.now)) }
 {
-    // It tells that a table has at most 64 rows, so that each number fits.
-    let _count = node.rows();
-    let end = DrawnEnd {
-        name: node.name(),
-        pair: *pair,
-        time: Slice {
-            first: plan.from,
-            last: plan.to,
-        },
-        slices,
-    };
-    push_end_bars(out, &end, node.entries())
+    push_decimal(out, u64::from(number))?;
+    out.extend_from_slice(words)
+}
+
+/// Puts behind `out` how many connections there are, and how many are wrong, where with `good` nothing is. An error
+/// only when out of memory.
+#[tactic(auto, unfolding(book_draw_plan::specs::Bars::summary_words))]
+pub fn push_summary_words(out: &mut Vec<u8>, all: u32, good: u32) -> Result<(), AllocError>
+    ensures { OnOk result (out.new.items ≡ out.old.items ++ summary_words all good) }
+{
+    push_count(out, all, b" connections, ")?;
+    push_count(out, all.saturating_sub(good), b" of them wrong")?;
+    Ok(())
+}
+
+/// Puts the line behind `out` that says so, where there are two or more. An error only when out of memory.
+#[tactic(auto, unfolding(book_draw_plan::specs::Bars::summary_line))]
+pub fn push_summary_line(out: &mut Vec<u8>, all: u32, good: u32) -> Result<(), AllocError>
+    ensures { OnOk result (out.new.items ≡ out.old.items ++ summary_line all good) }
+{
+    if 1 < all {
+        push_summary_words(out, all, good)?;
+        out.push(b'\n')?;
+    }
+    Ok(())
 }
 
 /// The line that marks the slices in which something is wrong.
@@ -82,30 +85,40 @@ fn push_wrong(
     Ok(())
 }
 
-/// Puts the bars of a connection behind `out`, whose ends have the tables `a` and `b`; `pair` is as end A
-/// sees it. For each row that accepts or sends over it from `plan.from` to `plan.to`, first those of A,
-/// there are two bars, of at most 48 slices: `#` is a slice in each second of which the row does so, `+`
-/// one in some of which. Below them each slice is marked in which one of the findings is seen: a row that
-/// isn't met at the other end may send in it, or a gap has a second of it.
+/// The line that marks what is wrong, where something is.
+fn push_wrong_if(
+    out: &mut Vec<u8>,
+    ends: &Connected,
+    plan: &Plan,
+    findings: &[Finding],
+    slices: &[Slice],
+) -> Result<(), AllocError>
+    requires { slices.now ≡ slices_of plan.now.from plan.now.to }
+    ensures { OnOk result (out.new.items ≡ out.old.items ++ wrong_text ends.now.tables.a.now ends.now.tables.b.now ends.now.pair plan.now findings.now) }
+{
+    match findings {
+        [] => Ok(()),
+        [_, ..] => push_wrong(out, ends, findings, slices),
+    }
+}
+
+/// Puts the bars of a connection behind `out`, those of `bars_of` in order, each of at most 48 slices: `#` is a
+/// slice in each second of which the row does so, `+` one in some of which. Below them, where there is a finding,
+/// each slice is marked in which one is seen: a row that isn't met at the other end may send in it, or a gap has a
+/// second of it. An error only when out of memory.
 #[tactic(auto, unfolding(book_draw_plan::specs::Bars::both_bars))]
 pub fn push_bars(
     alloc: Global,
     out: &mut Vec<u8>,
-    a: &Table,
-    b: &Table,
-    pair: &Pair,
+    ends: &Connected,
     plan: &Plan,
     findings: &[Finding],
 ) -> Result<(), AllocError>
-    ensures { OnOk result (out.new.items ≡ out.old.items ++ both_bars a.now b.now pair.now plan.now findings.now) }
+    ensures { OnOk result (out.new.items ≡ out.old.items ++ both_bars ends.now.tables.a.now ends.now.tables.b.now ends.now.pair plan.now findings.now) }
 {
     let slices = slices_of(alloc, plan.from, plan.to)?;
+    let bars = bars_of(alloc, ends.tables.a, ends.tables.b, &ends.pair, plan)?;
     push_scale(out, plan)?;
-    push_node_bars(out, a, pair, plan, slices.as_slice())?;
-    push_node_bars(out, b, &mirrored(pair), plan, slices.as_slice())?;
-    let ends = Connected {
-        tables: BothEnds { a, b },
-        pair: *pair,
-    };
-    push_wrong(out, &ends, findings, slices.as_slice())
+    push_bar_lines(out, ends, plan, slices.as_slice(), bars.as_slice())?;
+    push_wrong_if(out, ends, plan, findings, slices.as_slice())
 }

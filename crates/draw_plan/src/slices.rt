@@ -40,9 +40,8 @@ fn push_slices(slices: &mut Vec<Slice>, width: u64, low: u64, more: u64) -> Resu
     Ok(())
 }
 
-/// The slices of the time from `low` to `high`, at most 48; none where it ends before it begins. An error only
-/// for want of memory.
-pub fn slices_of(alloc: Global, low: u64, high: u64) -> Result<Vec<Slice>, AllocError>
+/// The slices of the time from `low` to `high`, at most 48; none where it ends before it begins.
+pub(crate) fn slices_of(alloc: Global, low: u64, high: u64) -> Result<Vec<Slice>, AllocError>
     ensures { IfOk result (λ v. v.items ≡ slices_of low high) }
 {
     let mut slices = Vec::new(alloc);

@@ -19,15 +19,6 @@ pub struct Connected<'a> {
     pub pair: Pair,
 }
 
-fn pair_at(end: End, pair: &Pair) -> Pair
-    ensures { result ≡ pair_at end pair.now }
-{
-    match end {
-        End::A => *pair,
-        End::B => mirrored(pair),
-    }
-}
-
 /// Whether the row that was found may send at some second of the slice.
 fn may_send_in(pair: &Pair, slice: &Slice, row: Option<&Row>) -> bool
     ensures { result ≡ may_send_in pair.now slice.now (option_map (λ r. r.now) row.entry) }
@@ -44,11 +35,21 @@ impl<'a> Connected<'a> {
         *self.tables.at(end)
     }
 
+    /// The pair as an end sees it.
+    pub fn pair_at(&self, end: End) -> Pair
+        ensures { result ≡ pair_at end self.now.pair }
+    {
+        match end {
+            End::A => self.pair,
+            End::B => mirrored(&self.pair),
+        }
+    }
+
     /// Whether the row of this end and number may send at some second of the slice.
     fn is_sending(&self, slice: &Slice, end: End, number: u8) -> bool
         ensures { result ≡ numbered_sends (side_of end self.now.tables.a.now self.now.tables.b.now).rows (pair_at end self.now.pair) slice.now number }
     {
-        let pair = pair_at(end, &self.pair);
+        let pair = self.pair_at(end);
         may_send_in(&pair, slice, row_numbered(self.table(end), number))
     }
 
@@ -65,7 +66,7 @@ impl<'a> Connected<'a> {
 
     /// Whether one of the findings is seen in the slice: a row that isn't met at the other end may send in it, or
     /// a gap has a second of it.
-    pub fn is_marked(&self, slice: &Slice, findings: &[Finding]) -> bool
+    fn is_marked(&self, slice: &Slice, findings: &[Finding]) -> bool
         ensures { result ≡ is_marked self.now.tables.a.now self.now.tables.b.now self.now.pair findings.now slice.now }
     {
         findings.iter().any(|finding| self.is_seen(slice, *finding))

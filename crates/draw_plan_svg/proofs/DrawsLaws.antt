@@ -1,10 +1,15 @@
 -- Lines that are drawn one after another.
-use Rattle.std.proofs.Common.{◌≡◌, ℕ, suc, ◌+◌, List, [], ◌∷◌, ◌++◌, length, refl, sym, ap, ◌∙◌, append_assoc, arith}
+use Rattle.std.proofs.Common.{◌≡◌, ℕ, suc, ◌+◌, List, [], ◌∷◌, ◌++◌, length, map, refl, sym, ap, ◌∙◌, append_assoc, arith}
 use Rattle.std.proofs.lemmas.List.{append-nil}
-use Rattle.book_draw_plan_svg.specs.PlanLines.{PlanLine}
-use Rattle.book_draw_plan_svg.specs.PlanPictures.{line_svg, lines_svg}
+use Rattle.book_draw_plan.specs.declared.bar.Bar.{Bar}
+use Rattle.book_draw_plan.specs.BarOrders.{plan_time}
+use Rattle.book_draw_plan.specs.Bars.{shown_bar}
+use Rattle.book_draw_plan_svg.specs.PlanLines.{PlanLine, Barred}
+use Rattle.book_draw_plan_svg.specs.PlanPictures.{bar_svg, line_svg, lines_svg}
 use Rattle.book_keys.specs.declared.plan.Plan.{Plan}
-use Rattle.draw_plan_svg.specs.Draws.{Draws}
+use Rattle.book_plans.specs.declared.finding.Finding.{Finding}
+use Rattle.draw_plan.specs.declared.wrong.Connected.{Connected}
+use Rattle.draw_plan_svg.specs.Draws.{Draws, bars_svg, judged_of}
 use Rattle.toml.specs.Data.{Members}
 
 module _ (document : Members) (plan : Plan) where
@@ -34,3 +39,22 @@ module _ (document : Members) (plan : Plan) where
       counted : (n : ℕ) (us vs : List PlanLine) → n + length us + length vs ≡ n + length (us ++ vs)
       counted n [] vs = omega arith
       counted n (u ∷ us) vs = let more = counted n us vs in omega arith
+
+  bars_lines : (ends : Connected) (fs : List Finding) (bars : List Bar) (line : ℕ)
+      → bars_svg document (plan_time plan) ends line bars ≡ lines_svg document plan line (map (Barred (judged_of ends fs)) bars)
+  bars_lines ends fs [] line = refl
+  bars_lines ends fs (bar ∷ bars) line =
+      ap (λ (x : List ℕ). bar_svg document line (shown_bar ends.tables.a.now ends.tables.b.now ends.pair (plan_time plan) bar) ++ x)
+      (bars_lines ends fs bars (line + 1))
+
+  bars_length : (ends : Connected) (fs : List Finding) (bars : List Bar) → length bars ≡ length (map (Barred (judged_of ends fs)) bars)
+  bars_length ends fs [] = refl
+  bars_length ends fs (bar ∷ bars) = ap suc (bars_length ends fs bars)
+
+  pub bars_drawn : (ends : Connected) (fs : List Finding) (bars : List Bar) (before after : List ℕ) (line next : ℕ)
+      → after ≡ before ++ bars_svg document (plan_time plan) ends line bars → next ≡ line + length bars
+      → Draws document plan (map (Barred (judged_of ends fs)) bars) before line after next
+  bars_drawn ends fs bars before after line next text count = record {
+    text = text ∙ ap (λ (x : List ℕ). before ++ x) (bars_lines ends fs bars line);
+    count = count ∙ ap (λ (n : ℕ). line + n) (bars_length ends fs bars);
+  }

@@ -1,2 +1,3 @@
+mod DateWalk
 pub mod DrawsLaws
-pub mod MarkLaws
+mod WidthLaws

@@ -1,20 +1,18 @@
-//! The marks of the slices in which something is wrong.
+//! The marks of what is wrong.
 ghost use Rattle.std.specs.Prelude.{◌≡◌, ◌++◌, IfOk, OnOk, codes, flat_map};
-ghost use Rattle.book_draw_plan.specs.Slices.{slices_of};
-ghost use Rattle.book_draw_plan_svg.specs.PlanPictures.{mark_svg, wrong_svg};
-ghost use Rattle.book_draw_plan_svg.specs.Spans.{marked_slices};
+ghost use Rattle.book_draw_plan_svg.specs.PlanPictures.{finding_svg, mark_svg, span_mark, wrong_svg};
 ghost use Rattle.book_scope_plan.specs.FindingTexts.{times_text};
-ghost use Rattle.draw_plan_svg.specs.Draws.{judged_of, mark_if};
+ghost use Rattle.draw_plan_svg.specs.Draws.{judged_of};
 
-use crate::places::{push_line_words, push_span_box};
-use crate::scale::plan_time;
+use crate::places::{bars_height, push_line_words};
+use crate::spans::{finding_span, span_width, start_column};
 use book_draw_plan::Slice;
-use book_keys::Plan;
 use book_plans::Finding;
+use book_svg::Point;
 use draw_plan::Connected;
 use plan_texts::push_times;
 use std::alloc::{AllocError, Global};
-use svg_tags::push_titled;
+use svg_tags::{push_box, push_titled};
 
 /// The title of a mark.
 fn mark_title(alloc: Global, slice: &Slice) -> Result<Vec<u8>, AllocError>
@@ -26,66 +24,65 @@ fn mark_title(alloc: Global, slice: &Slice) -> Result<Vec<u8>, AllocError>
     Ok(text)
 }
 
-/// The mark of a slice.
+/// The mark of the seconds at which something is wrong.
 #[tactic(auto, unfolding(book_draw_plan_svg::specs::PlanPictures::mark_svg))]
 fn push_mark(out: &mut Vec<u8>, line: u32, time: &Slice, slice: &Slice) -> Result<(), AllocError>
     ensures { OnOk result (out.new.items ≡ out.old.items ++ mark_svg line time.now slice.now) }
 {
     let title = mark_title(*out.allocator(), slice)?;
+    let at = Point {
+        x: start_column(time, slice.first),
+        y: bars_height(line),
+    };
+    let width = span_width(time, slice).max(3);
     let mut drawing = Vec::new(*out.allocator());
-    push_span_box(&mut drawing, line, time, slice, b" fill=\"#000\"")?;
+    push_box(&mut drawing, at, width, 12, b" fill=\"#000\"")?;
     push_titled(out, b"wrong", None, title.as_slice(), drawing.as_slice())
 }
 
-/// The mark of a slice, where one of the findings is seen in it.
-fn push_mark_if(
+/// The mark of these seconds, where there are some.
+fn push_span_mark(
     out: &mut Vec<u8>,
     line: u32,
     time: &Slice,
-    ends: &Connected,
-    findings: &[Finding],
-    slice: &Slice,
+    span: Option<Slice>,
 ) -> Result<(), AllocError>
-    ensures { OnOk result (out.new.items ≡ out.old.items ++ mark_if line time.now (judged_of ends.now findings.now) slice.now) }
+    ensures { OnOk result (out.new.items ≡ out.old.items ++ span_mark line time.now span) }
 {
-    if ends.is_marked(slice, findings) {
-        push_mark(out, line, time, slice)
-    } else {
-        Ok(())
+    match span {
+        None => Ok(()),
+        Some(span) => push_mark(out, line, time, &span),
     }
 }
 
-/// The marks of the slices in which one of the findings is seen.
+/// The marks of all findings on a connection.
 fn push_marks(
     out: &mut Vec<u8>,
     line: u32,
     time: &Slice,
     ends: &Connected,
     findings: &[Finding],
-    slices: &[Slice],
 ) -> Result<(), AllocError>
-    ensures { OnOk result (out.new.items ≡ out.old.items ++ flat_map (mark_svg line time.now) (marked_slices (judged_of ends.now findings.now) slices.now)) }
+    ensures { OnOk result (out.new.items ≡ out.old.items ++ flat_map (finding_svg line time.now (judged_of ends.now findings.now)) findings.now) }
 {
-    for slice in slices {
-        push_mark_if(out, line, time, ends, findings, slice)?;
+    for finding in findings {
+        push_span_mark(out, line, time, finding_span(ends, time, *finding))?;
     }
     Ok(())
 }
 
-/// The marks of all slices of a plan in which something is wrong.
+/// The marks of all that doesn't hold of a plan.
 #[tactic(auto, unfolding(book_draw_plan_svg::specs::PlanPictures::wrong_svg))]
 pub(crate) fn push_wrong(
     out: &mut Vec<u8>,
-    plan: &Plan,
     line: u32,
+    time: &Slice,
     ends: &Connected,
     findings: &[Finding],
-    slices: &[Slice],
 ) -> Result<(), AllocError>
-    requires { slices.now ≡ slices_of plan.now.from plan.now.to }
-    ensures { OnOk result (out.new.items ≡ out.old.items ++ wrong_svg plan.now line (judged_of ends.now findings.now)) }
+    ensures { OnOk result (out.new.items ≡ out.old.items ++ wrong_svg line time.now (judged_of ends.now findings.now)) }
 {
     push_line_words(out, line, b"wrong")?;
     out.push(b'\n')?;
-    push_marks(out, line, &plan_time(plan), ends, findings, slices)
+    push_marks(out, line, time, ends, findings)
 }

@@ -1,20 +1,22 @@
 //! The lines of a connection.
-ghost use Rattle.std.specs.Prelude.{◌≡◌, ◌∷◌, ◌+◌, ◌≤◌, IfOk, option_map};
+ghost use Rattle.std.specs.Prelude.{◌≡◌, ◌∷◌, ◌++◌, ◌+◌, ◌≤◌, IfOk, OnOk, length, option_map};
 ghost use Rattle.toml.specs.View.{table_view};
-ghost use Rattle.book_draw_plan_svg.specs.PlanLines.{both_lines, missing_lines, planned_lines};
+ghost use Rattle.book_draw_plan.specs.BarOrders.{plan_time};
+ghost use Rattle.book_draw_plan_svg.specs.PlanLines.{both_lines, missing_lines, planned_lines, wrong_lines};
 ghost use Rattle.book_draw_plan_svg.specs.PlanLines.{Named as named};
-ghost use Rattle.draw_plan_svg.specs.Draws.{Draws, judged_of};
+ghost use Rattle.draw_plan_svg.specs.Draws.{Draws, bars_svg, judged_of};
 
+use crate::bars::push_bar;
 use crate::marks::push_wrong;
 use crate::places::push_line_words;
-use crate::rows::push_node;
 use crate::scale::push_scale;
 use book_base::{Address, Pair};
+use book_draw_plan::Bar;
 use book_keys::Plan;
 use book_plans::Finding;
 use both_ends::BothEnds;
-use draw_plan::{Connected, slices_of};
-use key_table::{Table, mirrored};
+use draw_plan::{Connected, bars_of, plan_time};
+use key_table::Table;
 use plan_texts::{push_missing_words, push_pair};
 use std::alloc::{AllocError, Global};
 
@@ -35,7 +37,51 @@ pub struct Panel<'a> {
     pub findings: &'a [Finding],
 }
 
-/// The lines of a connection between two nodes, behind its name; the number of the line behind them.
+/// The bars of a connection; the number of the line after them.
+fn push_bars(
+    out: &mut Vec<u8>,
+    paper: &Paper,
+    line: u32,
+    ends: &Connected,
+    bars: &[Bar],
+) -> Result<u32, AllocError>
+    requires room { line ≤ 4100000000 }
+    requires few { length bars.now ≤ 8448 }
+    ensures text { OnOk result (out.new.items ≡ out.old.items ++ bars_svg (table_view paper.now.document.now) (plan_time paper.now.plan) ends.now line bars.now) }
+    ensures next { IfOk result (λ next. next ≡ line + length bars.now) }
+{
+    let time = plan_time(&paper.plan);
+    let mut next = line;
+    for bar in bars {
+        push_bar(out, paper.document, next, ends.shown(&time, *bar))?;
+        next += 1;
+    }
+    Ok(next)
+}
+
+/// The marks of what is wrong, where something is; the number of the line after them.
+fn push_wrong_if(
+    out: &mut Vec<u8>,
+    paper: &Paper,
+    line: u32,
+    ends: &Connected,
+    findings: &[Finding],
+) -> Result<u32, AllocError>
+    requires { line ≤ 4200000000 }
+    ensures drawn { IfOk result (λ next. Draws (table_view paper.now.document.now) paper.now.plan
+        (wrong_lines (judged_of ends.now findings.now)) out.old.items line out.new.items next) }
+    ensures few { IfOk result (λ next. next ≤ line + 1) }
+{
+    match findings {
+        [] => Ok(line),
+        [_, ..] => {
+            push_wrong(out, line, &plan_time(&paper.plan), ends, findings)?;
+            Ok(line + 1)
+        }
+    }
+}
+
+/// The lines of a connection between two nodes, after its name; the number of the line after them.
 fn push_both(
     alloc: Global,
     out: &mut Vec<u8>,
@@ -47,31 +93,16 @@ fn push_both(
     requires { line ≤ 4001000000 }
     ensures drawn { IfOk result (λ next. Draws (table_view paper.now.document.now) paper.now.plan
         (both_lines paper.now.plan (judged_of ends.now findings.now)) out.old.items line out.new.items next) }
-    ensures few { IfOk result (λ next. next ≤ line + 258) }
+    ensures few { IfOk result (λ next. next ≤ line + 8450) }
 {
-    let slices = slices_of(alloc, paper.plan.from, paper.plan.to)?;
-    push_scale(out, &paper.plan, line, slices.as_slice())?;
-    let middle = push_node(
-        out,
-        paper,
-        line + 1,
-        ends.tables.a,
-        &ends.pair,
-        slices.as_slice(),
-    )?;
-    let last = push_node(
-        out,
-        paper,
-        middle,
-        ends.tables.b,
-        &mirrored(&ends.pair),
-        slices.as_slice(),
-    )?;
-    push_wrong(out, &paper.plan, last, ends, findings, slices.as_slice())?;
-    Ok(last + 1)
+    let bars = bars_of(alloc, ends.tables.a, ends.tables.b, &ends.pair, &paper.plan)?;
+    push_scale(out, line, &plan_time(&paper.plan))?;
+    let last = push_bars(out, paper, line + 1, ends, bars.as_slice())?;
+    let next = push_wrong_if(out, paper, last, ends, findings)?;
+    Ok(next)
 }
 
-/// That no node has the address, where none has; the number of the line behind it.
+/// That no node has the address, where none has; the number of the line after it.
 fn push_missing(
     out: &mut Vec<u8>,
     paper: &Paper,
@@ -95,7 +126,7 @@ fn push_missing(
     }
 }
 
-/// The lines of a connection by the nodes of its ends, behind its name; the number of the line behind them.
+/// The lines of a connection by the nodes of its ends, after its name; the number of the line after them.
 fn push_nodes(
     alloc: Global,
     out: &mut Vec<u8>,
@@ -108,7 +139,7 @@ fn push_nodes(
         (planned_lines (option_map (λ t. t.now) panel.now.a) (option_map (λ t. t.now) panel.now.b)
         paper.now.plan panel.now.pair panel.now.findings.now)
         out.old.items line out.new.items next) }
-    ensures few { IfOk result (λ next. next ≤ line + 258) }
+    ensures few { IfOk result (λ next. next ≤ line + 8450) }
 {
     match (panel.a, panel.b) {
         (Some(a), Some(b)) => {
@@ -126,10 +157,9 @@ fn push_nodes(
 }
 
 /// Puts the lines of a connection behind `out`, the first of which has the number `line`, from 0; the number of
-/// the line behind them. Its name comes first; then, where both ends have nodes, the time, the bars of the rows
-/// of A and of B that accept or send over it from `plan.from` to `plan.to`, each at the seconds in which the row
-/// does so, and the marks of the slices in which one of the findings is seen; and else that no node has an
-/// address. An error only for want of memory.
+/// the line after them. Its name comes first; then, where both ends have nodes, the time with its dates,
+/// the bars of `bars_of` in order, each at the seconds in which its row does so, and, where there is a finding, the
+/// marks of the seconds of each; and else that no node has an address. An error only when out of memory.
 pub fn push_panel(
     alloc: Global,
     out: &mut Vec<u8>,
@@ -142,7 +172,7 @@ pub fn push_panel(
         (named panel.now.pair ∷ planned_lines (option_map (λ t. t.now) panel.now.a) (option_map (λ t. t.now) panel.now.b)
         paper.now.plan panel.now.pair panel.now.findings.now)
         out.old.items line out.new.items next) }
-    ensures few { IfOk result (λ next. next ≤ line + 259) }
+    ensures few { IfOk result (λ next. next ≤ line + 8451) }
 {
     let mut words = Vec::new(*out.allocator());
     push_pair(&mut words, &panel.pair)?;

@@ -1,10 +1,15 @@
 //! Where a time stands in the picture, and which seconds a bar shows.
-ghost use Rattle.std.specs.Prelude.{◌≡◌, ◌<◌, ◌≤◌, ◌^◌};
-ghost use Rattle.book_draw_plan_svg.specs.Spans.{bar_span, common_span, does_for, duty_lifetime, span_width, time_column};
+ghost use Rattle.std.specs.Prelude.{◌≡◌, ◌≤◌, option_map};
+ghost use Rattle.book_draw_plan_svg.specs.Spans.{bar_span, common_span, does_for, duty_lifetime, finding_span, sending_span, span_width, time_column};
+ghost use Rattle.book_draw_plan.specs.Bars.{pair_at};
+ghost use Rattle.book_scope_plan.specs.CalendarTexts.{row_numbered, side_of};
 
-use book_base::Pair;
+use book_base::{End, Pair};
 use book_draw_plan::{Duty, Slice};
+use book_plans::Finding;
+use draw_plan::Connected;
 use key_table::{Lifetime, Row};
+use plan_texts::row_numbered;
 
 /// The column of a moment, in seconds since 1970, of a time that is drawn.
 #[tactic(auto, unfolding(book_draw_plan_svg::specs::Spans::time_column))]
@@ -30,7 +35,8 @@ pub(crate) fn start_column(time: &Slice, first: u64) -> u64
 /// How wide some of the seconds of a time are drawn.
 #[tactic(auto, unfolding(book_draw_plan_svg::specs::Spans::span_width))]
 pub(crate) fn span_width(time: &Slice, span: &Slice) -> u64
-    ensures { result ≡ span_width time.now span.now }
+    ensures value { result ≡ span_width time.now span.now }
+    ensures range { result ≤ 780 }
 {
     let end = time_column(time, span.last as u128 + 1);
     end.saturating_sub(start_column(time, span.first)).max(1)
@@ -77,5 +83,34 @@ pub(crate) fn bar_span(pair: &Pair, duty: Duty, row: &Row, time: &Slice) -> Opti
         common_span(&duty_lifetime(duty, row), time)
     } else {
         None
+    }
+}
+
+/// The seconds of a time in which the row that was found may send.
+fn sending_span(pair: &Pair, time: &Slice, row: Option<&Row>) -> Option<Slice>
+    ensures { result ≡ sending_span pair.now time.now (option_map (λ r. r.now) row.entry) }
+{
+    match row {
+        None => None,
+        Some(row) => bar_span(pair, Duty::Sends, row, time),
+    }
+}
+
+/// The seconds of a time in which the row of this end and number may send.
+fn numbered_span(ends: &Connected, time: &Slice, end: End, number: u8) -> Option<Slice>
+    ensures { result ≡ sending_span (pair_at end ends.now.pair) time.now (row_numbered (side_of end ends.now.tables.a.now ends.now.tables.b.now).rows number) }
+{
+    let row = row_numbered(ends.table(end), number);
+    sending_span(&ends.pair_at(end), time, row)
+}
+
+/// The seconds of a time at which the finding is so.
+pub(crate) fn finding_span(ends: &Connected, time: &Slice, finding: Finding) -> Option<Slice>
+    ensures { result ≡ finding_span ends.now.tables.a.now ends.now.tables.b.now ends.now.pair time.now finding }
+{
+    match finding {
+        Finding::NoPeerRow(end, number) => numbered_span(ends, time, end, number),
+        Finding::ShortAccept(end, number) => numbered_span(ends, time, end, number),
+        Finding::Gap(_, first, last) => Some(Slice { first, last }),
     }
 }

@@ -5,18 +5,18 @@ ghost use Rattle.book_draw_plan_svg.specs.PlanLines.{drawing_lines};
 ghost use Rattle.book_scope_plan.specs.PlanTexts.{connection_line, has_none, is_good_plan, missing_text, node_with, plan_findings};
 ghost use Rattle.scope_plan.specs.KeyFiles.{key_file_of};
 ghost use Rattle.draw_plan_svg.specs.Draws.{Draws};
-ghost use Rattle.scope_plan.specs.Plannings.{connection_as, framed, lines_as};
+ghost use Rattle.scope_plan.specs.Plannings.{connection_as, framed_plan, lines_as};
 
 use crate::connections::{findings_by, has_none, push_connection};
 use crate::key_file::KeyFile;
-use crate::planned::Written;
+use crate::planned::{Planned, Written};
 use book_base::{Bytes, Pair};
 use book_cmd_keys::Plan;
 use book_draw_plan::PlanForm;
 use book_plans::Finding;
 use both_ends::BothEnds;
-use draw_plan::{Connected, push_bars};
-use draw_plan_svg::{Panel, Paper, push_end, push_front, push_panel};
+use draw_plan::{Connected, push_bars, push_summary_line};
+use draw_plan_svg::{Panel, Paper, picture_width, push_end, push_front, push_panel, push_summary};
 use key_table::{Table, Tables};
 use plan_texts::{push_missing, push_pair_line};
 use std::alloc::{AllocError, Global};
@@ -33,15 +33,7 @@ fn push_both(
     ensures good { IfOk result (λ good. good ≡ has_none (plan_findings tables.now plan.now ends.now.pair)) }
 {
     let findings = findings_by(alloc, tables, &ends.pair, plan)?;
-    push_bars(
-        alloc,
-        out,
-        ends.tables.a,
-        ends.tables.b,
-        &ends.pair,
-        plan,
-        findings.as_slice(),
-    )?;
+    push_bars(alloc, out, ends, plan, findings.as_slice())?;
     Ok(has_none(findings.as_slice()))
 }
 
@@ -98,7 +90,7 @@ fn push_pictured(
 ) -> Result<Written, AllocError>
     requires { line ≤ 4000000000 }
     ensures drawn { IfOk result (λ w. Draws (key_file_of keys.now).document plan.now (drawing_lines keys.now.tables plan.now pair.now) out.old.items line out.new.items w.next) }
-    ensures few { IfOk result (λ w. w.next ≤ line + 259) }
+    ensures few { IfOk result (λ w. w.next ≤ line + 8451) }
     ensures good { IfOk result (λ w. w.is_good ≡ is_good_plan keys.now.tables plan.now pair.now) }
 {
     let tables = &keys.tables;
@@ -135,7 +127,7 @@ pub(crate) fn push_connection_as(
     requires { line ≤ 4000000000 }
     ensures text { OnOk result (out.new.items ≡ out.old.items ++ connection_as form (key_file_of keys.now) plan.now line pair.now) }
     ensures next { IfOk result (λ w. w.next ≡ line + lines_as form (key_file_of keys.now) plan.now pair.now) }
-    ensures few { IfOk result (λ w. w.next ≤ line + 259) }
+    ensures few { IfOk result (λ w. w.next ≤ line + 8451) }
     ensures good { IfOk result (λ w. w.is_good ≡ is_good_plan keys.now.tables plan.now pair.now) }
 {
     match form {
@@ -160,22 +152,29 @@ pub(crate) fn push_connection_as(
     }
 }
 
-/// The whole text of what is said, which has so many lines of a picture.
+/// The whole text of what is said in the form.
 pub(crate) fn framed(
     alloc: Global,
     form: PlanForm,
-    count: u32,
-    text: Bytes,
+    keys: &KeyFile,
+    planned: Planned,
 ) -> Result<Bytes, AllocError>
-    ensures { IfOk result (λ whole. whole ≡ framed form count text) }
+    ensures { IfOk result (λ whole. whole ≡ framed_plan form (key_file_of keys.now) planned) }
 {
     match form {
-        PlanForm::Lines => Ok(text),
-        PlanForm::Bars => Ok(text),
-        PlanForm::Picture => {
+        PlanForm::Lines => Ok(planned.text),
+        PlanForm::Bars => {
             let mut out = Vec::new(alloc);
-            push_front(&mut out, count)?;
-            out.extend_from_slice(text.as_slice())?;
+            push_summary_line(&mut out, planned.all, planned.good)?;
+            out.extend_from_slice(planned.text.as_slice())?;
+            Ok(Bytes::from_vec(out))
+        }
+        PlanForm::Picture => {
+            let width = picture_width(alloc, &keys.document, &keys.tables)?;
+            let mut out = Vec::new(alloc);
+            push_front(&mut out, width, planned.lines)?;
+            push_summary(&mut out, planned.all, planned.good)?;
+            out.extend_from_slice(planned.text.as_slice())?;
             push_end(&mut out)?;
             Ok(Bytes::from_vec(out))
         }

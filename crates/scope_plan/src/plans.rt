@@ -1,15 +1,16 @@
 //! What is said of each connection of an input.
-ghost use Rattle.std.specs.Prelude.{◌≡◌, ◌&&◌, IfOk, ◌<◌, ◌≤◌, ◌↔◌, IsErrOf, [], false, length};
+ghost use Rattle.std.specs.Prelude.{◌≡◌, ◌&&◌, IfOk, ◌<◌, ◌≤◌, ◌↔◌, IsErrOf, length};
 ghost use Rattle.book_base.specs.Lines.{lines_of};
 ghost use Rattle.book_lines.specs.Lines.{most_lines};
 ghost use Rattle.book_lines.specs.Said.{at_number, said_by, said_in};
 ghost use Rattle.text_lines.specs.Readings.{Answers};
 ghost use Rattle.book_scope_plan.specs.Connections.{plan_pair_of};
+ghost use Rattle.book_scope_plan.specs.FindingTexts.{one_if};
 ghost use Rattle.book_scope_plan.specs.PlanTexts.{changes_key};
 ghost use Rattle.book_answer.specs.Answers.{if_read};
 ghost use Rattle.command_report.specs.Reports.{Reports};
 ghost use Rattle.scope_plan.specs.KeyFiles.{key_file_of};
-ghost use Rattle.scope_plan.specs.Plannings.{planned_answer, planned_from, plannings};
+ghost use Rattle.scope_plan.specs.Plannings.{no_plan, planned_answer, planned_from, plannings};
 
 use crate::connection::read_connection;
 use crate::connections::changes_key;
@@ -53,6 +54,14 @@ fn is_right(
     Ok(changes_key(turns.as_slice()))
 }
 
+/// One for what holds, and none for what doesn't.
+fn one_if(holds: bool) -> u32
+    ensures value { result ≡ one_if holds }
+    ensures range { result ≤ 1 }
+{
+    if holds { 1 } else { 0 }
+}
+
 /// What is said of each connection of the lines that are left.
 fn plan_lines(
     alloc: Global,
@@ -62,21 +71,27 @@ fn plan_lines(
     mut lines: SayingLines,
 ) -> Result<Planned, TextFault>
     requires { length lines ≤ most_lines }
-    ensures { Answers result (planned_from form (key_file_of keys.now) plan.now [] 0 false (said_by plan_pair_of lines.entry)) }
+    ensures { Answers result (planned_from form (key_file_of keys.now) plan.now no_plan (said_by plan_pair_of lines.entry)) }
 {
     let mut out = Vec::new(alloc);
     let mut count = 0;
+    let mut all: u32 = 0;
+    let mut good: u32 = 0;
     let mut has_wrong = false;
     while let Some(line) = lines.next() {
         let pair = connection_in(line)?;
         let written = push_connection_as(alloc, form, &mut out, count, keys, plan, &pair)?;
         count = written.next;
+        all += 1;
+        good += one_if(written.is_good);
         let right = is_right(alloc, keys, plan, &pair, written.is_good)?;
         has_wrong |= !right;
     }
     Ok(Planned {
         text: Bytes::from_vec(out),
         lines: count,
+        all,
+        good,
         has_wrong,
     })
 }
@@ -111,9 +126,10 @@ fn plan_input(
 ///
 /// Of a connection with an address that no node has it is only said so. A finding, such an address or that no
 /// key changes is amiss. In the form `PlanForm::Bars` the line `connection ..` is followed by the bars of
-/// `draw_plan::push_bars` in place of the calendar and the findings. In the form `PlanForm::Picture` it is one
-/// picture in SVG, `picture_text` of the book, of the same lines, connections one below another: the bars by
-/// seconds in place of slices, and a mark for each slice under which the text has one.
+/// `draw_plan::push_bars` in place of the calendar and the findings, and above all stands how many connections
+/// there are, where there are two or more, and with how many of them nothing is wrong. In the form
+/// `PlanForm::Picture` it is one picture in SVG, `picture_text` of the book, of the same lines, connections one
+/// below another: the bars by seconds in place of slices, and a mark for each finding.
 ///
 /// `Ok` exactly where each line that says something is a connection between two addresses of one family
 /// that differ. `TooManyLines` exactly where the input has more than 20,000 lines; else `Line` is the first
@@ -133,6 +149,6 @@ pub fn answer_plan(
 {
     let planned = plan_input(alloc, form, keys, &plan, input)?;
     let is_amiss = planned.has_wrong;
-    let text = framed(alloc, form, planned.lines, planned.text)?;
+    let text = framed(alloc, form, keys, planned)?;
     Ok(Report { text, is_amiss })
 }

@@ -1,9 +1,10 @@
 use Rattle.std.proofs.Common.{◌≡◌, ◌++◌, drop}
 use Rattle.std.specs.Prelude.{flat_map}
-use Rattle.draw_plan_svg.specs.Draws.{judged_of, mark_if}
+use Rattle.book_draw_plan_svg.specs.PlanPictures.{finding_svg}
+use Rattle.draw_plan_svg.specs.Draws.{judged_of}
 use Rattle.draw_plan_svg.proofs.marks.push_marks.Given as goal
 
-abbrev pub invariant-loop-slice : goal.invariant-loop-slice
-invariant-loop-slice l =
-    l.out.items ++ flat_map (mark_if l.line l.time (judged_of l.ends l.findings)) (drop l.slice-index l.slices)
-    ≡ l.fn.out.items ++ flat_map (mark_if l.line l.time (judged_of l.ends l.findings)) l.slices
+abbrev pub invariant-loop-finding : goal.invariant-loop-finding
+invariant-loop-finding l =
+    l.out.items ++ flat_map (finding_svg l.line l.time (judged_of l.ends l.findings)) (drop l.finding-index l.findings)
+    ≡ l.fn.out.items ++ flat_map (finding_svg l.line l.time (judged_of l.ends l.findings)) l.findings

@@ -1,10 +1,9 @@
-use Rattle.std.proofs.Common.{◌+◌, ◌++◌, [], ◌∷◌}
+use Rattle.std.proofs.Common.{◌+◌, ◌++◌, [], ◌∷◌, map}
 use Rattle.toml.specs.View.{table_view}
-use Rattle.book_draw_plan.specs.Bars.{end_drawn}
-use Rattle.book_draw_plan_svg.specs.PlanLines.{Scale, Wrong, both_lines, end_bar_lines}
-use Rattle.book_keys.specs.Plans.{mirrored}
+use Rattle.book_draw_plan.specs.BarOrders.{bars_of}
+use Rattle.book_draw_plan_svg.specs.PlanLines.{Barred, Scale, both_lines, wrong_lines}
 use Rattle.draw_plan_svg.specs.Draws.{judged_of}
-use Rattle.draw_plan_svg.proofs.DrawsLaws.{draws_one, draws_then}
+use Rattle.draw_plan_svg.proofs.DrawsLaws.{bars_drawn, draws_one, draws_then}
 use Rattle.draw_plan_svg.proofs.panel.push_both.Goals as goal
 
 pub returns-clause-drawn : goal.returns-clause-drawn
@@ -15,19 +14,15 @@ returns-clause-drawn c =
     let ends = c.args.ends.now in
     let out = c.args.out.now.items in
     let one = c.push_scale.new.out.items in
-    let two = c.push_node.new.out.items in
-    let three = c.push_node-2.new.out.items in
-    let new = c.push_wrong.new.out.items in
+    let two = c.push_bars.new.out.items in
+    let new = c.push_wrong_if.new.out.items in
     let line = c.args.line in
-    let middle = c.in_ok-middle.middle in
     let last = c.in_ok-last.last in
     let j = judged_of ends c.args.findings.now in
-    let rows_a = end_bar_lines (end_drawn ends.tables.a.now.name ends.pair plan) 1 ends.tables.a.now.rows in
-    let rows_b = end_bar_lines (end_drawn ends.tables.b.now.name (mirrored ends.pair) plan) 1 ends.tables.b.now.rows in
-    draws_then document plan (Scale ∷ []) (rows_a ++ (rows_b ++ Wrong j ∷ [])) out line one (line + 1) new (last + 1)
-    (draws_one document plan Scale out one line c.in_ok-push_scale.ensures)
-    (draws_then document plan rows_a (rows_b ++ Wrong j ∷ []) one (line + 1) two middle new (last + 1)
-    c.in_ok-middle.ensures.drawn
-    (draws_then document plan rows_b (Wrong j ∷ []) two middle three last new (last + 1)
-    (rw c.mirrored.ensures at c.in_ok-last.ensures.drawn)
-    (draws_one document plan (Wrong j) three new last c.in_ok-push_wrong.ensures)))
+    let bars = map (Barred j) (bars_of j.a j.b j.pair plan) in
+    draws_then document plan (Scale ∷ []) (bars ++ wrong_lines j) out line one (line + 1) new c.in_ok-next.next
+    (draws_one document plan Scale out one line (rw c.plan_time.ensures at c.in_ok-push_scale.ensures))
+    (draws_then document plan bars (wrong_lines j) one (line + 1) two last new c.in_ok-next.next
+    (bars_drawn document plan ends c.args.findings.now (bars_of j.a j.b j.pair plan) one two (line + 1) last
+    (rw (c.as_slice.ensures.value, c.in_ok-bars.ensures.bars) at c.in_ok-last.ensures.text) (rw (c.as_slice.ensures.value, c.in_ok-bars.ensures.bars) at c.in_ok-last.ensures.next))
+    c.in_ok-next.ensures.drawn)
