@@ -7,6 +7,7 @@ import re
 import sys
 
 CALL = re.compile(r'pub extern "C" fn (\w+)\((.*?)\) -> i32', re.S)
+STRUCT = re.compile(r"^pub struct (\w+)", re.M)
 TYPE = re.compile(r"^(?:&(?:mut )?)?(\w+)$")
 
 
@@ -15,6 +16,13 @@ def calls(folder):
     for file in sorted(folder.glob("*.rt")):
         for name, told in CALL.findall(file.read_text(encoding="utf-8")):
             yield file.stem, name, [it.split(":", 1)[1].strip() for it in told.split(",") if it.strip()]
+
+
+def declared(folder):
+    """Each type's module and name."""
+    for file in sorted(folder.glob("*.rt")):
+        for name in STRUCT.findall(file.read_text(encoding="utf-8")):
+            yield file.stem, name
 
 
 def reaching(module, name, types):
@@ -26,9 +34,12 @@ def reaching(module, name, types):
 
 def main():
     found = list(calls(pathlib.Path(sys.argv[1])))
-    named = sorted({TYPE.match(it)[1] for _, _, types in found for it in types if TYPE.match(it)})
-    shapes = ", ".join(it for it in named if re.match(r"C[A-Z]", it))
-    print(f"\nuse handle::Handle;\nuse shapes::{{{shapes}}};\nuse std::alloc::Global;\n")
+    named = {TYPE.match(it)[1] for _, _, types in found for it in types if TYPE.match(it)}
+    print()
+    for module, name in declared(pathlib.Path(sys.argv[1])):
+        if name in named:
+            print(f"use {module}::{name};")
+    print("use std::alloc::Global;\n")
     for module, name, types in found:
         print(reaching(module, name, types))
     print("fn main() {")

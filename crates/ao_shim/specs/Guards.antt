@@ -6,7 +6,7 @@ use Rattle.book_segments.specs.Segments.{has, SYN, spell}
 use Rattle.book_keys.specs.Rows.{Row}
 use Rattle.book_shim.specs.declared.kept.Isns.{Isns}
 use Rattle.book_shim.specs.declared.kept.Kept.{Kept}
-use Rattle.book_shim.specs.Keeping.{Setting}
+use Rattle.book_shim.specs.Keeping.{Setting, fresh}
 use Rattle.book_shim.specs.Leaving.{Sealed, outbound}
 use Rattle.book_shim.specs.Arriving.{Opened, inbound}
 use Rattle.ao_kdf.specs.declared.way.Way.TheVariants.{Outbound}
@@ -24,6 +24,11 @@ abbrev pub bond : Pair → Option Isns → Cache → Bond
 bond pair None keys = record { pair = pair; own = 0; peer = None; current = None; keys = keys }
 bond pair (Some c) keys =
     record { pair = pair; own = c.own; peer = Some c.peer; current = None; keys = keys }
+
+-- what is kept of a pair of which a connection was saved (own)
+abbrev pub resumed : Isns → (sent heard : ℕ) → (current : Option ℕ) → Kept
+resumed isns sent heard current =
+    record fresh { isns = Some isns; sent = sent; heard = heard; current = current }
 
 -- the table suits the guard: there is room for the keys of its rows, and those that are kept are
 -- theirs, in the connection in use (own)

@@ -1,13 +1,13 @@
 //! A pair of sockets whose datagrams pass through.
-ghost use Rattle.std.specs.Prelude.{◌≡◌, ◌≤◌, List, length, IfOk};
+ghost use Rattle.std.specs.Prelude.{◌≡◌, ◌≤◌, ◌^◌, List, length, IfOk};
 ghost use Rattle.book_keys.specs.Rows.{Row};
 ghost use Rattle.book_shim.specs.Keeping.{fresh as book_fresh};
 ghost use Rattle.ao_kdf.specs.Cache.{empty};
-ghost use Rattle.ao_shim.specs.Guards.{Suits};
+ghost use Rattle.ao_shim.specs.Guards.{Suits, resumed};
 
 use ao_kdf::KeyCache;
 use book_base::Pair;
-use book_shim::Kept;
+use book_shim::{Isns, Kept};
 use shim_kept::fresh;
 use std::alloc::{AllocError, Global};
 use std::marker::Model;
@@ -45,6 +45,35 @@ impl Guard {
             kept: fresh(),
             keys,
         })
+    }
+
+    /// A pair whose connection in use is known by what was saved of it: both initial sequence numbers, and
+    /// the numbers after the greatest that was sent and heard, at most 2^63; and the row that is current.
+    /// There is room for the keys of `rows` rows, no fewer than the table has.
+    #[tactic(auto, using(crate::proofs::KeptLaws::suits_empty))]
+    pub fn resume(
+        alloc: Global,
+        pair: Pair,
+        rows: u8,
+        isns: Isns,
+        sent: u64,
+        heard: u64,
+        current: Option<u8>,
+    ) -> Result<Guard, AllocError>
+        requires sent { sent ≤ 2 ^ 63 }
+        requires heard { heard ≤ 2 ^ 63 }
+        ensures resumed { IfOk result (λ g. g ≡ record { pair = pair; kept = resumed isns sent heard current; keys = empty rows }) }
+        ensures suits { IfOk result (λ g. (table : List Row) → length table ≤ rows → Suits table g) }
+    {
+        let keys = KeyCache::new(alloc, rows)?;
+        let kept = Kept {
+            isns: Some(isns),
+            sent,
+            heard,
+            current,
+            ..fresh()
+        };
+        Ok(Guard { pair, kept, keys })
     }
 
     /// The pair of sockets.

@@ -1,4 +1,6 @@
 pub mod AnswerLaws
 pub mod Places
 pub mod RowLaws
+pub mod ShimAnswers
+pub mod ShimPlaces
 pub mod TallyLaws

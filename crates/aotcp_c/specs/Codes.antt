@@ -64,6 +64,10 @@ no_row = pos 11
 abbrev pub no_connection : ℤ
 no_connection = pos 12
 
+-- the pair is held already (own)
+abbrev pub in_use : ℤ
+in_use = pos 13
+
 -- a row overlaps the new one (own)
 abbrev pub overlap : ℤ
 overlap = pos 18

@@ -7,3 +7,4 @@ pub mod RowShapes
 pub mod Calls
 pub mod KeyFiles
 pub mod Counters
+pub mod Shims

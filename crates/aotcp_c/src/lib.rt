@@ -1,5 +1,5 @@
-//! Stacks for programs in C: the calls of `ao_counters::CountedStack` over a handle that a C program holds,
-//! with numbers for their answers. No call has a condition on its numbers: what a C program may get wrong is
+//! Stacks and shims for programs in C: the calls of `ao_counters::CountedStack` and of `shim_pairs::Shim` over
+//! a handle that a C program holds, with numbers for their answers. No call has a condition on its numbers: what a C program may get wrong is
 //! tested, and answered by a code. `include/aotcp.h` declares them.
 #![tactic(auto)]
 
@@ -17,5 +17,11 @@ mod pairs;
 mod receive;
 mod rows;
 mod shapes;
+mod shim_calls;
+mod shim_handle;
+mod shim_numbers;
+mod shim_saved;
+mod shim_shapes;
+mod shims;
 mod stacks;
 mod status;

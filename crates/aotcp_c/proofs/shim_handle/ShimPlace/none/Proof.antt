@@ -1,0 +1,28 @@
+-- A null pointer owns nothing.
+use Rattle.std.proofs.Common.{[], ◌∷◌, refl, lit<}
+use Rattle.std.proofs.raw_atomic.Walks.{proved}
+use types.Kit.{‵, raw, ◌$◌, ◌∵◌, !, qed, drop, join, suffices, done}
+use types.Run.{enter, lit, no_more, and_then, returns}
+use types.Part.{agg}
+use types.ByLocal.{alloc_all, pass_all, free_all, look_at, sets}
+use denote.RawPtr.{null_ptr}
+use denote.Steps.{nothing}
+use denote.Triple.Entry.{on_entry}
+use denote.Triple.Walked.{walk_of, says, ends_at}
+use Rattle.std.specs.declared.option.Option.TheVariants.{None}
+use Rattle.aotcp_c.proofs.ShimPlaces.{word, place_in}
+use Rattle.aotcp_c.specs.contracts.shim_handle.ShimPlace.none as f
+use Rattle.aotcp_c.proofs.shim_handle.ShimPlace.none.Statement.{statement}
+use Rattle.aotcp_c.proofs.shim_handle.ShimPlace.none.Code as code
+
+pub none_spec : {M : Type 1} → statement M
+none_spec 𝓤 𝓛 𝓜 𝓡 wired =
+    let c = f.clauses 𝓛 𝓜.mem 𝓡.returns in
+    proved 𝓛 f.ended tt c 𝓜 𝓡 tt f.Key.name code.function (code.unfolded 𝓤 𝓛.H 𝓜 𝓡 wired) (λ κs. tt) (λ κs. tt) (λ κs qs bounds a g are.
+    let y : (walk_of 𝓛 f.ended tt c).Ghost = ((κs, qs, bounds, a, tt), g) in
+    qed 𝓛 (raw (on_entry 𝓛 f.signature κs qs a tt) ∷ ‵ base.Fml.ftrue ∷ []) ∵ drop ! $ drop ! $
+    enter ! _ _ _ _ _ $ alloc_all ! (λ l. pass_all ! refl tt $
+    sets ! (agg ! (and_then ! (lit ! tt) (no_more !))) refl (tt, (record { fits = lit< tt }, tt)) $
+    returns ! (look_at ! 0 refl) $ free_all ! refl $
+    suffices ! _ (ends_at 𝓛 f.ended tt c y (word null_ptr) (record { at = null_ptr; value = None }) tt tt) $ says ! refl $
+    nothing ! $ place_in ! null_ptr None $ nothing ! $ join ! $ nothing ! $ join ! $ done !))

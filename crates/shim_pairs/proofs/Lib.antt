@@ -1,0 +1,4 @@
+pub mod EldestLaws
+pub mod OutLaws
+pub mod PutLaws
+pub mod ShimLaws

@@ -1,0 +1,177 @@
+-- The pairs of sockets of which a shim keeps something, which one goes for want of room, and what
+-- is saved of them.
+use Rattle.std.specs.Prelude.{◌≡◌, ℕ, zero, suc, ◌/◌, ◌==◌, ◌&&◌, ◌||◌, nat_le, nat_lt, Bool, true, false, not}
+use Rattle.std.specs.Prelude.{slice_get, option_map, is_some, Result, Ok, Err, List, [], ◌∷◌, length, Option, Some, None, if◌then◌else◌}
+use Rattle.std.specs.List.{find}
+use Rattle.std.specs.Map.{lookup, remove_entry, set_value}
+use Rattle.std.specs.BTreeMap.{is_at, insert_entry}
+use Rattle.book_base.specs.declared.address.Pair.{Pair}
+use Rattle.book_base.specs.Orders.{by_pair}
+use Rattle.book_keys.specs.Coordination.{follow}
+use Rattle.book_keys.specs.Plans.{rows_at}
+use Rattle.book_keys.specs.Rows.{Row, Table, has_address}
+use Rattle.book_shim.specs.declared.kept.Isns.{Isns}
+use Rattle.book_shim.specs.declared.kept.Kept.{Kept}
+use Rattle.book_shim.specs.Keeping.{fresh, are_isns, is_the_number}
+use Rattle.ao_kdf.specs.Cache.{empty}
+use Rattle.ao_shim.specs.Guards.{Suits, resumed}
+use Rattle.shim_pairs.specs.declared.entry.Entry.{Entry}
+use Rattle.shim_pairs.specs.declared.saved.Saved.{Saved}
+use Rattle.shim_pairs.specs.declared.saved.RestoreRefusal.{RestoreRefusal}
+use Rattle.shim_pairs.specs.declared.saved.RestoreRefusal.TheVariants as refusals
+
+-- the tables of the own addresses, how many pairs are kept at most, and each with what is kept of
+-- it, in the order of pairs (own)
+pub record Holding : Type 0 where
+  pub tables : List Table
+  pub most : ℕ
+  pub entries : List (Pair × Entry)
+
+-- what is held of a pair among these entries (own)
+abbrev pub found : Pair → List (Pair × Entry) → Option Entry
+found p es = lookup (is_at (by_pair p)) es
+
+-- something is held of the pair (own)
+abbrev pub holds : Holding → Pair → Bool
+holds h p = is_some (found p h.entries)
+
+-- what is kept of a pair, of which nothing may be held (own)
+abbrev pub kept_of : Option Entry → Kept
+kept_of None = fresh
+kept_of (Some e) = e.guard.kept
+
+-- what is kept of a pair (own)
+abbrev pub kept_at : Holding → Pair → Kept
+kept_at h p = kept_of (found p h.entries)
+
+-- the rows of the pair's own address (own)
+abbrev pub rows_for : Holding → Pair → List Row
+rows_for h p = rows_at h.tables p.local.address
+
+-- of two entries the one of which something passed longer ago, the first where both did at one time
+-- (own)
+abbrev pub elder : Pair × Entry → Option (Pair × Entry) → Pair × Entry
+elder x None = x
+elder x (Some y) = if nat_le x.1.last y.1.last then x else y
+
+-- the entry of which nothing passed for longest (own)
+abbrev pub eldest : List (Pair × Entry) → Option (Pair × Entry)
+eldest [] = None
+eldest (x ∷ xs) = Some (elder x (eldest xs))
+
+-- which entry goes where another one comes about: none while there is room (own)
+abbrev pub going : (most : ℕ) → List (Pair × Entry) → Option (Pair × Entry)
+going most es = if nat_lt (length es) most then None else eldest es
+
+-- the entries without that one (own)
+abbrev pub without : Option (Pair × Entry) → List (Pair × Entry) → List (Pair × Entry)
+without None es = es
+without (Some v) es = remove_entry (is_at (by_pair v.0)) es
+
+-- the entries after another one came about (own)
+abbrev pub with_another : (most : ℕ) → List (Pair × Entry) → Pair → Entry → List (Pair × Entry)
+with_another most es p e = without (going most es) (insert_entry by_pair es p e)
+
+-- the entries with this one of the pair, which is held or comes about (own)
+abbrev pub with_entry : (most : ℕ) → List (Pair × Entry) → Pair → Entry → List (Pair × Entry)
+with_entry most es p e =
+    if is_some (found p es) then set_value (is_at (by_pair p)) es e else with_another most es p e
+
+-- the shim with these entries (own)
+abbrev pub of_entries : Holding → List (Pair × Entry) → Holding
+of_entries h es = record h { entries = es }
+
+-- an entry is of its pair, and the table of the pair's own address suits it (own)
+pub record SuitsAt (tables : List Table) (p : Pair) (e : Entry) : Type 0 where
+  pub pair_is : e.guard.pair ≡ p
+  pub suits : Suits (rows_at tables p.local.address) e.guard
+
+-- each entry is of its pair, and its table suits it (own)
+abbrev pub AllSuit : List Table → List (Pair × Entry) → Type 0
+AllSuit tables es = (p : Pair) (e : Entry) → found p es ≡ Some e → SuitsAt tables p e
+
+-- these are the same two numbers, or none (own)
+abbrev pub same_isns : Option Isns → Option Isns → Bool
+same_isns None other = not (is_some other)
+same_isns (Some c) other = are_isns other c.own c.peer
+
+-- how far a number may go before what is kept is saved again (own)
+abbrev pub saved_stretch : ℕ
+saved_stretch = 536870912
+
+-- this is the same row, or none (own)
+abbrev pub same_row : Option ℕ → Option ℕ → Bool
+same_row None other = not (is_some other)
+same_row (Some n) other = is_the_number other n
+
+-- a connection is in use, and another row is current in it (own)
+abbrev pub has_other_key : Kept → Kept → Bool
+has_other_key g k = is_some k.isns && not (same_row g.current k.current)
+
+-- what is kept must be saved before the datagram goes on: the numbers of another connection are in
+-- use, another key is, or a number went past a whole stretch (own)
+abbrev pub is_to_save : Kept → Kept → Bool
+is_to_save g k =
+    not (same_isns g.isns k.isns) || (has_other_key g k
+    || (not (g.sent / saved_stretch == k.sent / saved_stretch)
+    || not (g.heard / saved_stretch == k.heard / saved_stretch)))
+
+-- the KeyID of the row of this number, from 1 (RFC 5925, section 3.1)
+abbrev pub sent_id : List Row → Option ℕ → Option ℕ
+sent_id rows None = None
+sent_id rows (Some zero) = None
+sent_id rows (Some (suc n)) = option_map (λ r. r.send_id) (slice_get rows n)
+
+-- what is saved of a pair, if it has a connection (own)
+abbrev pub saved_in : List Row → Pair → Kept → Option Isns → Option Saved
+saved_in rows p g None = None
+saved_in rows p g (Some c) = Some (record {
+  pair = p;
+  isns = c;
+  sent = g.sent;
+  heard = g.heard;
+  key_id = sent_id rows g.current;
+})
+
+-- what is saved of an entry, if it has a connection (own)
+abbrev pub saved_entry : List Table → Pair → Entry → Option Saved
+saved_entry tables p e =
+    saved_in (rows_at tables p.local.address) p e.guard.kept e.guard.kept.isns
+
+-- in front of a list, where there is one (own)
+abbrev pub and_then : Option Saved → List Saved → List Saved
+and_then None rest = rest
+and_then (Some s) rest = s ∷ rest
+
+-- what is saved of all pairs that have a connection, in their order (own)
+abbrev pub saved_of : List Table → List (Pair × Entry) → List Saved
+saved_of tables [] = []
+saved_of tables (x ∷ xs) = and_then (saved_entry tables x.0 x.1) (saved_of tables xs)
+
+-- the row that sends under this KeyID now, where one is told and there is one (RFC 5925, section
+-- 7.4)
+abbrev pub current_by : List Row → Pair → (key_id : Option ℕ) → (now : ℕ) → Option ℕ
+current_by rows p None now = None
+current_by rows p (Some id) now = follow None rows p id now
+
+-- an entry of a connection that was saved, of which nothing passed yet (own)
+abbrev pub resumed_entry : List Row → (now : ℕ) → Saved → Entry
+resumed_entry rows now s = record {
+  guard = record {
+    pair = s.pair;
+    kept = resumed s.isns s.sent s.heard (current_by rows s.pair s.key_id now);
+    keys = empty (length rows);
+  };
+  last = 0;
+}
+
+-- no node has the address (own)
+abbrev pub is_foreign : Holding → Pair → Bool
+is_foreign h p = not (is_some (find (has_address p.local.address) h.tables))
+
+-- a connection is brought back, or memory ran out, unless the pair is held, or no node has its own
+-- address (own)
+abbrev pub IsRefused : Holding → Pair → Result (Unit {0}) RestoreRefusal → Type 0
+IsRefused h p (Err refusals.Held) = holds h p ≡ true
+IsRefused h p (Err refusals.NoNode) = (holds h p ≡ false) × (is_foreign h p ≡ true)
+IsRefused h p _ = (holds h p ≡ false) × (is_foreign h p ≡ false)
