@@ -1,0 +1,22 @@
+/* What a running ao-shim holds. */
+#ifndef PROGRAM_H
+#define PROGRAM_H
+
+#include "aotcp.h"
+#include "ends.h"
+#include "options.h"
+
+struct program {
+    struct options options;
+    struct aotcp_shim shims[2]; /* the one that runs, and one that holds none but while keys are read again */
+    unsigned which;
+    struct tally tally;
+    uint64_t round;               /* of state files: 1 more with each that was written */
+    bool stirred;                 /* something was counted since the status was written */
+    struct limit strangers;       /* lines on pairs that aren't known, */
+    struct limit kept, reports;   /* and on files that can't be written */
+};
+
+static inline struct aotcp_shim *shim_of(struct program *p) { return &p->shims[p->which]; }
+
+#endif
