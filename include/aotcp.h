@@ -331,27 +331,49 @@ struct aotcp_shim {
 
 /* What became of a datagram. */
 enum aotcp_shim_cause {
-    AOTCP_SHIM_PASSED = 0,     /* it goes on: what is sent, or handed to the kernel, in its place stands in `out` */
+    AOTCP_SHIM_PASSED = 0,     /* it goes on: what is sent, or handed to the kernel, in its place stands in the buffer */
     AOTCP_SHIM_BAD = 1,        /* no datagram: reason is an enum aotcp_datagram_fault */
     AOTCP_SHIM_NO_NODE = 2,    /* no node of the key file has the own address */
-    AOTCP_SHIM_NO_MEMORY = 3,  /* memory ran out for another pair; `out` may hold anything */
     AOTCP_SHIM_CHECKSUM = 4,   /* in: a wrong TCP checksum */
     AOTCP_SHIM_REFUSED = 5,    /* in: refused by TCP-AO: reason is an enum aotcp_verdict */
     AOTCP_SHIM_SIGNED = 6,     /* out: it has an option of TCP-AO or of TCP MD5 already */
     AOTCP_SHIM_NO_CONTEXT = 7, /* out: of no connection whose initial sequence numbers are known */
     AOTCP_SHIM_RANGE = 8,      /* out: its number is below 0, or it ends past 2^63 */
-    AOTCP_SHIM_NO_KEY = 9,     /* out: no row may send */
+    AOTCP_SHIM_NO_KEY = 9,     /* out: no row may send now */
     AOTCP_SHIM_NO_ROOM = 10,   /* out: its options and TCP-AO have more than 40 bytes */
     AOTCP_SHIM_TOO_LONG = 11,  /* out: with TCP-AO it is longer than its IP header can say */
-    AOTCP_SHIM_FOREIGN = 12    /* of another pair; a shim doesn't answer so */
+    AOTCP_SHIM_FOREIGN = 12,   /* of another pair; a shim doesn't answer so */
+    AOTCP_SHIM_UNKEYED = 13    /* no row of the node is for the pair, at any time */
 };
 struct aotcp_shim_told {
     struct aotcp_pair pair;    /* the datagram's sockets, the own one local; all zero where it is no datagram */
-    size_t length;             /* the bytes in front of `out`; 0 unless it goes on */
+    size_t length;             /* the bytes in front of the buffer; 0 unless it goes on */
     uint8_t cause;             /* an enum aotcp_shim_cause */
     uint8_t reason;            /* why, for AOTCP_SHIM_BAD and AOTCP_SHIM_REFUSED; else 0 */
     bool changed;              /* what aotcp_shim_save tells of the pair must be saved before it goes on: other initial
                                   sequence numbers or another key are in use, or a number went past a multiple of 2^29 */
+};
+
+/* What a shim counted since it was made: each datagram that is handed in with room is counted once. A counter that has
+ * come to 2^64 - 1 stays there. */
+struct aotcp_fault_counters { /* by enum aotcp_datagram_fault */
+    uint64_t truncated, version, header_length, header_checksum, fragment, not_tcp, extension_header, data_offset, option;
+};
+struct aotcp_verdict_counters { /* by enum aotcp_verdict */
+    uint64_t no_ao, two_ao, with_md5, no_tuple, expired, mac_length, no_context, range, bad_mac;
+};
+struct aotcp_shim_counters {
+    struct {
+        uint64_t passed;
+        struct aotcp_fault_counters bad;
+        uint64_t no_node, unkeyed, has_option, no_context, range, no_key, no_room, too_long;
+    } out;
+    struct {
+        uint64_t passed;
+        struct aotcp_fault_counters bad;
+        uint64_t no_node, unkeyed, checksum;
+        struct aotcp_verdict_counters refused;
+    } in;
 };
 
 /* What is saved of a connection, so that a shim that begins anew goes on with it. */
@@ -365,36 +387,41 @@ struct aotcp_saved {
 
 /* Makes a shim for the nodes of a key file, whose text is in memory; each node's address is an own one. It keeps at most
  * `most` pairs of sockets, 1 to 4,096: where so many are kept and another one comes about, the one of which nothing
- * passed for longest goes. AOTCP_BAD_MOST, AOTCP_HELD, AOTCP_BAD_KEYS with its fault, or AOTCP_NO_MEMORY, in this order:
- * the first that holds; then the handle is as it was. `fault` is written with AOTCP_BAD_KEYS alone. */
+ * passed for longest goes. All its memory is taken here, 600 bytes for each pair and each row of the largest table; no other
+ * call takes any. AOTCP_BAD_MOST, AOTCP_HELD, AOTCP_BAD_KEYS with its fault, or AOTCP_NO_MEMORY, in this order: the first
+ * that holds; then the handle is as it was. `fault` is written with AOTCP_BAD_KEYS alone. */
 int aotcp_shim_new(struct aotcp_shim *shim, const uint8_t *text, size_t length, uint16_t most,
                    struct aotcp_fault *fault);
 
 /* Frees the shim with what it keeps and its keys. AOTCP_NO_STACK. */
 int aotcp_shim_free(struct aotcp_shim *shim);
 
-/* A datagram of the own kernel at `now`, in seconds since 1970: it is sealed by the table of its source address (RFC 5925,
- * section 7.4). `out`, apart from it, has `room` bytes, at least 20 more than the datagram. With AOTCP_OK `told` tells what became of
- * it: what doesn't go on is to be dropped, and of its pair nothing has changed. It is written with AOTCP_OK alone.
- * AOTCP_NO_STACK, AOTCP_SMALL_ROOM. */
-int aotcp_shim_outbound(struct aotcp_shim *shim, uint64_t now, const uint8_t *bytes, size_t length, uint8_t *out,
-                        size_t room, struct aotcp_shim_told *told);
+/* A datagram of the own kernel at `now`, in seconds since 1970, the first *length bytes of `buffer`, which has `room` bytes, at
+ * least 20 more: it is sealed by the table of its source address (RFC 5925, section 7.4). With AOTCP_OK `told` tells what
+ * became of it. What goes on stands in the buffer then, and *length is its length; the bytes after it are as they were.
+ * What doesn't go on is to be dropped: the buffer, *length and what is kept of each pair are as they were. `told` is
+ * written with AOTCP_OK alone. AOTCP_NO_STACK, AOTCP_SMALL_ROOM; then nothing has changed. */
+int aotcp_shim_outbound(struct aotcp_shim *shim, uint64_t now, uint8_t *buffer, size_t room, size_t *length,
+                        struct aotcp_shim_told *told);
 
 /* A datagram from the network at `now`, in seconds since 1970: it is checked by the table of its destination address (RFC
  * 5925, section 7.5), and its option taken off. `mtu` is that of the device over which it came: a SYN tells the kernel a
  * maximum segment size that leaves room for TCP-AO. All else as for aotcp_shim_outbound. */
-int aotcp_shim_inbound(struct aotcp_shim *shim, uint64_t now, uint16_t mtu, const uint8_t *bytes, size_t length,
-                       uint8_t *out, size_t room, struct aotcp_shim_told *told);
+int aotcp_shim_inbound(struct aotcp_shim *shim, uint64_t now, uint16_t mtu, uint8_t *buffer, size_t room, size_t *length,
+                       struct aotcp_shim_told *told);
 
-/* What is saved of the connection at place `at`, from 0, among the pairs that have one, in an order that stays while
- * nothing is handed in; AOTCP_NOTHING from their end on. It walks over the pairs. `saved` is written with AOTCP_OK alone.
- * AOTCP_NO_STACK. */
+/* What was counted. AOTCP_NO_STACK. */
+int aotcp_shim_counters(struct aotcp_shim *shim, struct aotcp_shim_counters *told);
+
+/* What is saved of the pair at place `at`, from 0, in an order that stays while nothing is handed in: AOTCP_NO_CONNECTION
+ * where no initial sequence numbers of it are known, and AOTCP_NOTHING from the end of the pairs on. So a caller asks for
+ * 0, 1, .. until AOTCP_NOTHING. `saved` is written with AOTCP_OK alone. AOTCP_NO_STACK. */
 int aotcp_shim_save(struct aotcp_shim *shim, uint32_t at, struct aotcp_saved *saved);
 
 /* Goes on with a connection that was saved, at `now`, in seconds since 1970, also under another key file. Its current
  * key is the one that sends under its KeyID then; where there is none, it is chosen anew. AOTCP_NO_STACK,
  * AOTCP_BAD_FAMILY, AOTCP_BAD_ROW (a number past 2^63), AOTCP_IN_USE (the pair is kept already), AOTCP_NO_NODE (no node
- * has its own address), AOTCP_NO_MEMORY; then nothing has changed. For new keys make a shim of the new text, restore
+ * has its own address); then nothing has changed. For new keys make a shim of the new text, restore
  * into it what the old one saves, and free the old one. */
 int aotcp_shim_restore(struct aotcp_shim *shim, uint64_t now, const struct aotcp_saved *saved);
 

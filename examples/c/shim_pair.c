@@ -45,6 +45,10 @@ struct flying {
     uint8_t bytes[ROOM];
 };
 
+struct seen {
+    unsigned sealed, opened, refused;
+};
+
 struct world {
     struct aotcp_shim shims[2];
     struct tcp ends[2];
@@ -52,6 +56,7 @@ struct world {
     struct flying flying[MOST_FLYING];
     size_t on_way;
     unsigned sealed[2], opened[2], refused[2], altered, keys[2][256];
+    struct seen before[2]; /* when its shim began */
 };
 
 static unsigned roll(struct world *w, unsigned n) {
@@ -64,17 +69,30 @@ static void shim_open(struct aotcp_shim *shim, int end) {
     CHECK(aotcp_shim_new(shim, (const uint8_t *)KEYS[end], strlen(KEYS[end]), 4, &fault) == AOTCP_OK);
 }
 
+/* What the shim counted since it began is what was seen of it. */
+static void check_counters(struct world *w, int end) {
+    struct aotcp_shim_counters now;
+    CHECK(aotcp_shim_counters(&w->shims[end], &now) == AOTCP_OK);
+    const struct aotcp_verdict_counters *why = &now.in.refused;
+    uint64_t refused = now.in.checksum + why->no_ao + why->two_ao + why->with_md5 + why->no_tuple + why->expired
+        + why->mac_length + why->no_context + why->range + why->bad_mac + now.in.bad.data_offset + now.in.bad.option
+        + now.in.unkeyed + now.in.no_node + now.in.bad.truncated;
+    CHECK(now.out.passed == w->sealed[end] - w->before[end].sealed);
+    CHECK(now.in.passed == w->opened[end] - w->before[end].opened);
+    CHECK(refused == w->refused[end] - w->before[end].refused);
+    w->before[end] = (struct seen){w->sealed[end], w->opened[end], w->refused[end]};
+}
+
 /* The shim begins anew with what was saved of the old one. */
 static void begin_anew(struct world *w, int end) {
     struct aotcp_shim next = {0};
     struct aotcp_saved saved;
     shim_open(&next, end);
-    uint32_t at = 0;
-    for (; aotcp_shim_save(&w->shims[end], at, &saved) == AOTCP_OK; at++) {
-        CHECK(aotcp_shim_restore(&next, w->now / 1000, &saved) == AOTCP_OK);
-        CHECK(aotcp_shim_restore(&next, w->now / 1000, &saved) == AOTCP_IN_USE);
-    }
-    CHECK(at == 1);
+    CHECK(aotcp_shim_save(&w->shims[end], 1, &saved) == AOTCP_NOTHING);
+    CHECK(aotcp_shim_save(&w->shims[end], 0, &saved) == AOTCP_OK);
+    CHECK(aotcp_shim_restore(&next, w->now / 1000, &saved) == AOTCP_OK);
+    CHECK(aotcp_shim_restore(&next, w->now / 1000, &saved) == AOTCP_IN_USE);
+    check_counters(w, end);
     CHECK(aotcp_shim_free(&w->shims[end]) == AOTCP_OK);
     w->shims[end] = next;
 }
@@ -96,32 +114,33 @@ static void fly(struct world *w, int to, const uint8_t *bytes, size_t length) {
 }
 
 static void send_all(struct world *w, int end) {
-    uint8_t plain[TCP_LONGEST], out[ROOM];
-    for (size_t length; (length = tcp_next(&w->ends[end], w->now, plain)) > 0;) {
+    uint8_t buffer[TCP_LONGEST + 20];
+    for (size_t length; (length = tcp_next(&w->ends[end], w->now, buffer)) > 0;) {
         struct aotcp_shim_told told;
-        CHECK(aotcp_shim_outbound(&w->shims[end], w->now / 1000, plain, length, out, length + 19, &told) ==
-              AOTCP_SMALL_ROOM);
-        CHECK(aotcp_shim_outbound(&w->shims[end], w->now / 1000, plain, length, out, sizeof out, &told) == AOTCP_OK);
-        CHECK(told.cause == AOTCP_SHIM_PASSED && told.length == length + 16);
+        size_t now = length;
+        CHECK(aotcp_shim_outbound(&w->shims[end], w->now / 1000, buffer, length + 19, &now, &told) == AOTCP_SMALL_ROOM);
+        CHECK(aotcp_shim_outbound(&w->shims[end], w->now / 1000, buffer, sizeof buffer, &now, &told) == AOTCP_OK);
+        CHECK(told.cause == AOTCP_SHIM_PASSED && told.length == now && now == length + 16);
         w->sealed[end]++;
-        w->keys[end][out[20 + (out[32] >> 4) * 4 - 14]]++; /* the KeyID of the option, which stands last */
-        fly(w, !end, out, told.length);
+        w->keys[end][buffer[20 + (buffer[32] >> 4) * 4 - 14]]++; /* the KeyID of the option, which stands last */
+        fly(w, !end, buffer, now);
     }
 }
 
 static void deliver(struct world *w, const struct flying *f) {
-    uint8_t out[ROOM + 20];
+    uint8_t buffer[ROOM + 20];
     struct aotcp_shim_told told;
-    CHECK(aotcp_shim_inbound(&w->shims[f->to], w->now / 1000, 1500, f->bytes, f->length, out, sizeof out, &told) ==
-          AOTCP_OK);
-    CHECK((told.cause == AOTCP_SHIM_PASSED) == (told.length > 0));
+    size_t length = f->length;
+    memcpy(buffer, f->bytes, length);
+    CHECK(aotcp_shim_inbound(&w->shims[f->to], w->now / 1000, 1500, buffer, sizeof buffer, &length, &told) == AOTCP_OK);
     if (told.cause != AOTCP_SHIM_PASSED) {
+        CHECK(told.length == 0 && length == f->length && memcmp(buffer, f->bytes, length) == 0);
         w->refused[f->to]++;
         return;
     }
-    CHECK(!f->altered && told.length == f->length - 16);
+    CHECK(!f->altered && told.length == length && length == f->length - 16);
     w->opened[f->to]++;
-    CHECK(tcp_input(&w->ends[f->to], out, told.length));
+    CHECK(tcp_input(&w->ends[f->to], buffer, length));
 }
 
 static void step(struct world *w) {

@@ -6,13 +6,13 @@ enum { FIRST_FAULT = 1, FIRST_VERDICT = 13 };
 
 static const char *const names[CAUSES] = {
     "", "truncated", "version", "header-length", "header-checksum", "fragment", "not-tcp", "extension-header",
-    "data-offset", "option", "no-node", "no-memory", "checksum", "no-ao", "two-ao", "with-md5", "no-tuple", "expired",
+    "data-offset", "option", "no-node", "unkeyed", "checksum", "no-ao", "two-ao", "with-md5", "no-tuple", "expired",
     "mac-length", "no-context", "range", "bad-mac", "has-option", "out-no-context", "out-range", "no-key", "no-room",
     "too-long", "not-kept", "failed"};
 
 unsigned cause_of(const struct aotcp_shim_told *told) {
     static const uint8_t others[] = {
-        [AOTCP_SHIM_NO_NODE] = 10, [AOTCP_SHIM_NO_MEMORY] = 11, [AOTCP_SHIM_CHECKSUM] = 12, [AOTCP_SHIM_SIGNED] = 22,
+        [AOTCP_SHIM_NO_NODE] = 10, [AOTCP_SHIM_UNKEYED] = CAUSE_UNKEYED, [AOTCP_SHIM_CHECKSUM] = 12, [AOTCP_SHIM_SIGNED] = 22,
         [AOTCP_SHIM_NO_CONTEXT] = 23, [AOTCP_SHIM_RANGE] = 24, [AOTCP_SHIM_NO_KEY] = 25, [AOTCP_SHIM_NO_ROOM] = 26,
         [AOTCP_SHIM_TOO_LONG] = 27};
     if (told->cause == AOTCP_SHIM_PASSED) return CAUSE_PASSED;

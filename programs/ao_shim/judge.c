@@ -8,16 +8,21 @@
 
 enum { SYN = 2, RST = 4, KIND_AO = 29 };
 
-/* The flags of a segment that the library passed, and the ids of its option of TCP-AO. */
+/* The flags of a segment, and the ids of its option of TCP-AO. */
 struct seen {
     uint8_t flags;
     struct ids ids;
 };
 
+/* Where TCP's header begins. */
+static size_t tcp_at(const uint8_t *bytes, size_t length) {
+    return length == 0 ? 0 : bytes[0] >> 4 == 6 ? 40 : (bytes[0] & 15u) * 4u;
+}
+
 static struct seen look_at(const uint8_t *bytes, size_t length) {
     struct seen seen;
     memset(&seen, 0, sizeof seen);
-    size_t at = length == 0 ? 0 : bytes[0] >> 4 == 6 ? 40 : (bytes[0] & 15u) * 4u;
+    size_t at = tcp_at(bytes, length);
     if (length < at + 20) return seen;
     seen.flags = bytes[at + 13];
     size_t end = at + (bytes[at + 12] >> 4) * 4u;
@@ -73,29 +78,46 @@ static bool is_kept(struct program *p, struct end *end, bool changed) {
     return false;
 }
 
-bool judge(struct program *p, enum way way, uint16_t mtu, const uint8_t *bytes, size_t length, uint8_t *out,
-           size_t room, size_t *out_length) {
+/* A datagram that no key is for, and that --pass-unkeyed lets by as it is. */
+static bool is_let_by(const struct program *p, unsigned cause) {
+    return cause == CAUSE_UNKEYED && p->options.pass_unkeyed;
+}
+
+/* Linux' own TCP-AO takes a TCP checksum of 0000 for a wrong MAC; ffff sums up to the same. */
+static void avoid_zero(uint8_t *datagram, size_t length) {
+    size_t at = tcp_at(datagram, length) + 16;
+    if (at + 2 <= length && datagram[at] == 0 && datagram[at + 1] == 0) datagram[at] = datagram[at + 1] = 0xff;
+}
+
+static unsigned ask(struct program *p, enum way way, uint16_t mtu, uint8_t *datagram, size_t *length, size_t room,
+                    struct aotcp_shim_told *told) {
+    memset(told, 0, sizeof *told);
+    int code = way == OUT ? aotcp_shim_outbound(shim_of(p), p->tally.at, datagram, room, length, told)
+                          : aotcp_shim_inbound(shim_of(p), p->tally.at, mtu, datagram, room, length, told);
+    return code == AOTCP_OK ? cause_of(told) : CAUSE_FAILED;
+}
+
+bool judge(struct program *p, enum way way, uint16_t mtu, uint8_t *datagram, size_t *length, size_t room) {
     struct aotcp_shim_told told;
-    memset(&told, 0, sizeof told);
+    struct end *end = NULL;
     p->tally.at = seconds();
     p->stirred = true;
-    int code = way == OUT ? aotcp_shim_outbound(shim_of(p), p->tally.at, bytes, length, out, room, &told)
-                          : aotcp_shim_inbound(shim_of(p), p->tally.at, mtu, bytes, length, out, room, &told);
-    unsigned cause = code == AOTCP_OK ? cause_of(&told) : CAUSE_FAILED;
-    struct end *end = NULL;
+    struct seen came = look_at(datagram, *length);
+    unsigned cause = ask(p, way, mtu, datagram, length, room, &told);
     if (cause == CAUSE_PASSED)
         end = make_end(&p->tally, &told.pair);
     else if (told.pair.family != 0)
         end = find_end(&p->tally, &told.pair);
     if (cause == CAUSE_PASSED && !is_kept(p, end, told.changed)) cause = CAUSE_NOT_KEPT;
     p->tally.counts[way][cause]++;
+    if (is_let_by(p, cause)) return true;
     if (cause != CAUSE_PASSED) {
         if (end != NULL) end->refused[cause]++;
         tell_dropped(p, end, way, &told.pair, cause);
         return false;
     }
-    struct seen seen = way == OUT ? look_at(out, told.length) : look_at(bytes, length);
+    if (way == OUT) avoid_zero(datagram, *length);
+    struct seen seen = way == OUT ? look_at(datagram, *length) : came;
     note_passed(p, end, way, &seen);
-    *out_length = told.length;
     return true;
 }

@@ -4,9 +4,8 @@
 
 #include "program.h"
 
-/* True: it goes on, as it stands in `out`, of `room` bytes, with *out_length of them. `mtu` is that of the device by
- * which it came; it isn't looked at for what leaves. */
-bool judge(struct program *p, enum way way, uint16_t mtu, const uint8_t *bytes, size_t length, uint8_t *out,
-           size_t room, size_t *out_length);
+/* A datagram of *length bytes at the front of `room` bytes, at least 20 more. True: it goes on as it stands there then,
+ * with *length bytes. `mtu` is that of the device by which it came; it isn't looked at for what leaves. */
+bool judge(struct program *p, enum way way, uint16_t mtu, uint8_t *datagram, size_t *length, size_t room);
 
 #endif

@@ -60,7 +60,7 @@ static bool hand_over(struct aotcp_shim *from, struct aotcp_shim *to) {
     struct aotcp_saved saved;
     int code = AOTCP_OK;
     unsigned gone = 0;
-    for (uint32_t at = 0; code == AOTCP_OK && aotcp_shim_save(from, at, &saved) == AOTCP_OK; at++) {
+    for (uint32_t at = 0; code == AOTCP_OK && next_saved(from, &at, &saved);) {
         code = aotcp_shim_restore(to, seconds(), &saved);
         if (code == AOTCP_NO_NODE) {
             code = AOTCP_OK;

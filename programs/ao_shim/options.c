@@ -9,7 +9,7 @@
 
 const char usage[] =
     "usage: ao-shim run --keys FILE --queue-out N --queue-in N [--state FILE] [--status FILE] [--metrics FILE]\n"
-    "                   [--mtu N] [--mark N] [--mark-in N] [--most N]\n"
+    "                   [--mtu N] [--mark N] [--mark-in N] [--most N] [--pass-unkeyed]\n"
     "       ao-shim rules --peer ADDRESS [--port N] [--nft | --iptables] [--forward IN OUT]\n"
     "                     [--queue-out N] [--queue-in N] [--mark-in N]\n"
     "       ao-shim check --keys FILE\n"
@@ -79,6 +79,7 @@ static bool is_word_alone(struct options *o, const char *word, const char *optio
     if (rules && strcmp(option, "--nft") == 0) return true;
     if (rules && strcmp(option, "--iptables") == 0) return o->for_iptables = true;
     if (strcmp(word, "status") == 0 && strcmp(option, "--json") == 0) return o->as_json = true;
+    if (strcmp(word, "run") == 0 && strcmp(option, "--pass-unkeyed") == 0) return o->pass_unkeyed = true;
     return false;
 }
 
@@ -102,7 +103,7 @@ static bool is_whole(const struct options *o, const char *word) {
 
 bool read_options(struct options *o, const char *word, int argc, char **argv) {
     memset(o, 0, sizeof *o);
-    o->most = 4096;
+    o->most = 1024;
     o->port = 179;
     for (int at = 0; at < argc; at++) {
         const char *option = argv[at];

@@ -8,7 +8,7 @@
 struct options {
     const char *keys, *state, *status, *metrics; /* null: none */
     const char *peer, *forward_in, *forward_out;
-    bool has_queues[2], for_iptables, as_json;
+    bool has_queues[2], pass_unkeyed, for_iptables, as_json;
     uint16_t queues[2]; /* by enum way */
     uint32_t marks[2];  /* 0: none */
     uint16_t mtu, most, port; /* an mtu of 0: the device's */

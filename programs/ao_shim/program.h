@@ -19,4 +19,11 @@ struct program {
 
 static inline struct aotcp_shim *shim_of(struct program *p) { return &p->shims[p->which]; }
 
+/* What is saved of the next connection from place *at on, which then is the place after it; false where none is left. */
+static inline bool next_saved(struct aotcp_shim *shim, uint32_t *at, struct aotcp_saved *saved) {
+    int code = AOTCP_NO_CONNECTION;
+    while (code == AOTCP_NO_CONNECTION) code = aotcp_shim_save(shim, (*at)++, saved);
+    return code == AOTCP_OK;
+}
+
 #endif

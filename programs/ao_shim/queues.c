@@ -1,6 +1,7 @@
 #include "queues.h"
 
 #include "judge.h"
+#include "verdicts.h"
 
 #include <arpa/inet.h>
 #include <errno.h>
@@ -18,13 +19,16 @@
 #ifndef SOL_NETLINK
 #define SOL_NETLINK 270
 #endif
-enum { NO_ENOBUFS = 5, WAITING = 8192, TURN = 32, LONGEST = 65535, ROOM = LONGEST + 20 };
+/* Of 8,192 datagrams that wait, 16 are read at a time from each queue, up to eight times in turn. A message has the
+ * datagram and some 200 bytes. */
+enum { NO_ENOBUFS = 5, WAITING = 8192, AT_ONCE = 16, TURNS = 8, MESSAGE = LONGEST + 4096 };
 
 struct queue {
     struct program *p;
     enum way way;
     struct nfq_handle *handle;
     struct nfq_q_handle *queue;
+    struct verdicts verdicts;
     struct limit limit;
 };
 
@@ -55,31 +59,33 @@ static uint16_t mtu_of(uint32_t device) {
     return known[place].mtu;
 }
 
-static int give_verdict(struct queue *q, uint32_t id, bool passes, size_t length, const uint8_t *bytes) {
-    uint32_t mark = q->p->options.marks[q->way];
-    if (!passes) return nfq_set_verdict(q->queue, id, NF_DROP, 0, NULL);
-    if (mark == 0) return nfq_set_verdict(q->queue, id, NF_ACCEPT, (uint32_t)length, bytes);
-    return nfq_set_verdict2(q->queue, id, NF_ACCEPT, mark, (uint32_t)length, bytes);
+static int tell_untaken(struct queue *q) {
+    int why = errno;
+    if (may_tell(&q->limit, q->p->tally.at)) fprintf(stderr, "ao-shim: verdicts aren't taken: %s\n", strerror(why));
+    return 0;
 }
 
 /* A datagram: whatever isn't told to pass is dropped. */
 static int on_datagram(struct nfq_q_handle *queue, struct nfgenmsg *message, struct nfq_data *data, void *with) {
-    static uint8_t out[ROOM];
     struct queue *q = with;
     struct nfqnl_msg_packet_hdr *header = nfq_get_msg_packet_hdr(data);
     unsigned char *bytes = NULL;
     int count = nfq_get_payload(data, &bytes);
-    size_t length = 0;
     (void)queue;
     (void)message;
     if (header == NULL) return 0; /* without its number there is no verdict: it doesn't go on */
+    uint32_t number = ntohl(header->packet_id);
     uint16_t mtu = q->p->options.mtu;
     if (mtu == 0 && q->way == IN) mtu = mtu_of(nfq_get_indev(data));
-    bool passes = count >= 0 && count <= LONGEST
-        && judge(q->p, q->way, mtu, bytes, (size_t)count, out, sizeof out, &length);
-    int done = give_verdict(q, ntohl(header->packet_id), passes, length, out);
-    if (done < 0 && may_tell(&q->limit, q->p->tally.at))
-        fprintf(stderr, "ao-shim: a verdict isn't taken: %s\n", strerror(errno));
+    uint8_t *room = room_of_next(&q->verdicts);
+    size_t length = count >= 0 && count <= LONGEST ? (size_t)count : 0;
+    if (room == NULL) return tell_untaken(q);
+    if (length > 0) memcpy(room, bytes, length);
+    bool passes = count >= 0 && length == (size_t)count && judge(q->p, q->way, mtu, room, &length, ROOM);
+    if (passes && length <= LONGEST)
+        pass_next(&q->verdicts, number, length);
+    else
+        drop_next(&q->verdicts, number);
     return 0;
 }
 
@@ -98,6 +104,10 @@ static bool open_queue(struct program *p, enum way way) {
         return false;
     }
     int fd = nfq_fd(q->handle);
+    q->verdicts.socket = fd;
+    q->verdicts.queue = p->options.queues[way];
+    q->verdicts.mark = p->options.marks[way];
+    setsockopt(fd, SOL_SOCKET, SO_SNDBUFFORCE, &room, sizeof room);
     setsockopt(fd, SOL_SOCKET, SO_RCVBUFFORCE, &room, sizeof room);
     setsockopt(fd, SOL_NETLINK, NO_ENOBUFS, &one, sizeof one);
     return true;
@@ -108,15 +118,24 @@ bool open_queues(struct program *p) {
     return devices >= 0 && open_queue(p, OUT) && open_queue(p, IN);
 }
 
-/* One message of a queue; false where none is there. */
-static bool read_one(struct queue *q) {
-    static char message[1 << 17];
-    int fd = nfq_fd(q->handle);
-    ssize_t count = recv(fd, message, sizeof message, MSG_DONTWAIT);
+/* What waits in a queue, up to AT_ONCE messages: judged, and answered together. False where no more is there. */
+static bool serve(struct queue *q) {
+    static uint8_t messages[AT_ONCE][MESSAGE];
+    struct iovec rooms[AT_ONCE];
+    struct mmsghdr heads[AT_ONCE];
+    memset(heads, 0, sizeof heads);
+    for (int i = 0; i < AT_ONCE; i++) {
+        rooms[i].iov_base = messages[i];
+        rooms[i].iov_len = MESSAGE;
+        heads[i].msg_hdr.msg_iov = &rooms[i];
+        heads[i].msg_hdr.msg_iovlen = 1;
+    }
+    int count = recvmmsg(nfq_fd(q->handle), heads, AT_ONCE, MSG_DONTWAIT, NULL);
     if (count < 0 && errno == ENOBUFS) q->p->tally.overruns++;
     if (count < 0) return errno == ENOBUFS;
-    nfq_handle_packet(q->handle, message, (int)count);
-    return true;
+    for (int i = 0; i < count; i++) nfq_handle_packet(q->handle, (char *)messages[i], (int)heads[i].msg_len);
+    if (!send_verdicts(&q->verdicts)) tell_untaken(q);
+    return count == AT_ONCE;
 }
 
 void serve_queues(const sigset_t *before, int milliseconds) {
@@ -124,7 +143,7 @@ void serve_queues(const sigset_t *before, int milliseconds) {
     struct timespec most = {milliseconds / 1000, milliseconds % 1000 * 1000000L};
     if (ppoll(fds, 2, milliseconds < 0 ? NULL : &most, before) <= 0) return;
     bool more[2] = {fds[OUT].revents != 0, fds[IN].revents != 0};
-    for (int turn = 0; turn < TURN && (more[OUT] || more[IN]); turn++)
+    for (int turn = 0; turn < TURNS && (more[OUT] || more[IN]); turn++)
         for (int way = OUT; way <= IN; way++)
-            if (more[way]) more[way] = read_one(&queues[way]);
+            if (more[way]) more[way] = serve(&queues[way]);
 }

@@ -15,7 +15,7 @@ static void print_state(FILE *file, void *with) {
     struct aotcp_saved saved;
     char local[SOCKET_TEXT], remote[SOCKET_TEXT];
     fputs(head, file);
-    for (uint32_t at = 0; aotcp_shim_save(shim_of(p), at, &saved) == AOTCP_OK; at++) {
+    for (uint32_t at = 0; next_saved(shim_of(p), &at, &saved);) {
         char key[4] = "-";
         if (saved.has_key) snprintf(key, sizeof key, "%u", saved.key_id);
         fprintf(file, "%s %u %s %u %" PRIu32 " %" PRIu32 " %" PRIu64 " %" PRIu64 " %s\n",
@@ -85,7 +85,6 @@ static const char *fault_of(int code) {
     case AOTCP_OK: return NULL;
     case AOTCP_NO_NODE: return "no node of the key file has its local address";
     case AOTCP_IN_USE: return "an earlier line has its sockets";
-    case AOTCP_NO_MEMORY: return "memory ran out";
     default: return "it isn't understood";
     }
 }

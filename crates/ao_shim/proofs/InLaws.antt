@@ -10,8 +10,8 @@ use Rattle.book_endpoint.specs.declared.verdict.Verdict.{Verdict}
 use Rattle.book_endpoint.specs.declared.verdict.Verdict.TheVariants.{NoContext}
 use Rattle.book_endpoint.specs.Verdicts.{Finding, judge}
 use Rattle.book_shim.specs.declared.kept.Kept.{Kept}
-use Rattle.book_shim.specs.declared.refusal.Untaken.TheVariants.{Bad, Foreign, Checksum, Refused}
-use Rattle.book_shim.specs.Keeping.{Setting, answered_isn}
+use Rattle.book_shim.specs.declared.refusal.Untaken.TheVariants.{Bad, Foreign, Unkeyed, Checksum, Refused}
+use Rattle.book_shim.specs.Keeping.{Setting, answered_isn, is_keyed}
 use Rattle.book_shim.specs.Arriving.{known_in, is_awaited, judged_arrival, handed_on, take_in, take_read, inbound, row_asked, asked_id, may_be_replayed}
 use Rattle.ao_shim.specs.Arrivals.{row_heard}
 
@@ -27,17 +27,21 @@ foreign_destination here pair g b d e t f = ap (take_read here pair g) e ∙ rw 
 pub from_peer_is : (here : Setting) (pair : Pair) (g : Kept) (b : List ℕ) (d : Segment) → reading b ≡ Read d → same_socket d.source pair.remote ≡ true → same_socket d.destination pair.local ≡ true → inbound here pair g b ≡ take_in here pair g d
 from_peer_is here pair g b d e t f = ap (take_read here pair g) e ∙ rw (t, f) refl
 
-pub wrong_sum : (here : Setting) (pair : Pair) (g : Kept) (d : Segment) → good d ≡ false → take_in here pair g d ≡ Err Checksum
+pub unkeyed : (here : Setting) (pair : Pair) (g : Kept) (d : Segment) → is_keyed here.rows pair ≡ false → take_in here pair g d ≡ Err Unkeyed
 unfolding take_in
-wrong_sum here pair g d e = rw e refl
+unkeyed here pair g d h = rw h refl
 
-pub refused_as : (here : Setting) (pair : Pair) (g : Kept) (d : Segment) (v : Verdict) → good d ≡ true → judged_arrival here pair g d ≡ Err v → take_in here pair g d ≡ Err (Refused v)
+pub wrong_sum : (here : Setting) (pair : Pair) (g : Kept) (d : Segment) → is_keyed here.rows pair ≡ true → good d ≡ false → take_in here pair g d ≡ Err Checksum
 unfolding take_in
-refused_as here pair g d v e j = rw (e, j) refl
+wrong_sum here pair g d h e = rw (h, e) refl
 
-pub taken_as : (here : Setting) (pair : Pair) (g : Kept) (d : Segment) (p : Finding) → good d ≡ true → judged_arrival here pair g d ≡ Ok p → take_in here pair g d ≡ Ok (handed_on here pair g d p)
+pub refused_as : (here : Setting) (pair : Pair) (g : Kept) (d : Segment) (v : Verdict) → is_keyed here.rows pair ≡ true → good d ≡ true → judged_arrival here pair g d ≡ Err v → take_in here pair g d ≡ Err (Refused v)
 unfolding take_in
-taken_as here pair g d p e j = rw (e, j) refl
+refused_as here pair g d v h e j = rw (h, e, j) refl
+
+pub taken_as : (here : Setting) (pair : Pair) (g : Kept) (d : Segment) (p : Finding) → is_keyed here.rows pair ≡ true → good d ≡ true → judged_arrival here pair g d ≡ Ok p → take_in here pair g d ≡ Ok (handed_on here pair g d p)
+unfolding take_in
+taken_as here pair g d p h e j = rw (h, e, j) refl
 
 -- ---- the row that is followed
 

@@ -1,6 +1,6 @@
 -- What is kept of a pair, the keys of its connection, and the tables that suit them.
 use Rattle.std.proofs.Common.{◌≡◌, ℕ, ◌+◌, ◌-◌, ◌<◌, ◌≤◌, ◌||◌, ◌&&◌, Bool, true, false, List, length, Option, Some, None, refl, sym, ap, subst, ◌∙◌, arith, if◌then◌else◌}
-use Rattle.std.specs.Prelude.{slice_get, option_map, max}
+use Rattle.std.specs.Prelude.{slice_get, option_map, max, not}
 use Rattle.book_base.specs.declared.address.Pair.{Pair}
 use Rattle.book_segments.specs.Segments.{Segment, has, SYN, ACK, segment_length}
 use Rattle.book_macs.specs.Contexts.{context_of, context_of_syn, context_of_later, bytes_of}
@@ -17,9 +17,9 @@ use Rattle.ao_check.proofs.KeyLaws.{outbound_key, kept_right, fits_after}
 use Rattle.book_shim.specs.declared.kept.Isns.{Isns}
 use Rattle.book_shim.specs.declared.kept.Kept.{Kept}
 use Rattle.book_shim.specs.Keeping.{own_isn, peer_isn, is_the_number, are_isns, is_opening_syn, answered_isn, connection_begun}
-use Rattle.book_shim.specs.Leaving.{opening, accepting, entered, past_sent}
-use Rattle.book_shim.specs.Arriving.{joined, admitted, past_heard}
-use Rattle.ao_shim.specs.Guards.{Held, bond, Suits, AreLow}
+use Rattle.book_shim.specs.Leaving.{opening, accepting, entered, resets, as_late, kept_for, past_sent}
+use Rattle.book_shim.specs.Arriving.{answered_anew, joined, admitted, is_of_connection, past_heard}
+use Rattle.ao_shim.specs.Guards.{Held, bond, Suits, AreLow, is_single_use}
 use Rattle.ao_shim.specs.Plans.{HasKey}
 use Rattle.ao_shim.specs.declared.plan.Plan.{Plan}
 
@@ -40,13 +40,15 @@ entered_low g d h s =
     low_if (has SYN d) _ g
     (low_if (has ACK d) (accepting g d.sequence (answered_isn d)) (opening g d.sequence)
     (low_if (are_isns g.isns d.sequence (answered_isn d)) g (connection_begun g d.sequence (answered_isn d)) h (begun_low g d.sequence (answered_isn d) s (answered_low d)))
-    (low_if (is_the_number (own_isn g) d.sequence || is_the_number g.opening d.sequence) g (record g { opening = Some d.sequence; current = None }) h (record { sent = h.sent; heard = h.heard })))
+    (low_if (is_the_number (own_isn g) d.sequence || is_the_number g.opening d.sequence) g (record g { opening = Some d.sequence; given_up = g.opening; current = None }) h (record { sent = h.sent; heard = h.heard })))
     h
 
 pub admitted_low : (g : Kept) (d : Segment) → AreLow g → d.sequence < 4294967296 → AreLow (admitted g d)
 admitted_low g d h s =
     low_if (has SYN d && has ACK d) (joined g (answered_isn d) d.sequence) g
-    (low_if (is_the_number g.opening (answered_isn d)) (connection_begun g (answered_isn d) d.sequence) g (begun_low g (answered_isn d) d.sequence (answered_low d) s) h)
+    (low_if (is_the_number g.opening (answered_isn d)) (connection_begun g (answered_isn d) d.sequence) _ (begun_low g (answered_isn d) d.sequence (answered_low d) s)
+    (low_if (is_the_number g.given_up (answered_isn d)) (record g { late = Some (record { own = answered_isn d; peer = d.sequence }) }) (answered_anew g (answered_isn d) d.sequence) (record { sent = h.sent; heard = h.heard })
+    (low_if (are_isns g.isns (answered_isn d) d.sequence || g.settled) g (record g { isns = Some (record { own = answered_isn d; peer = d.sequence }); heard = d.sequence + 1 }) h (record { sent = h.sent; heard = omega arith }))))
     h
 
 max_low : (a b c : ℕ) → a ≤ c → b ≤ c → max a b ≤ c
@@ -54,11 +56,14 @@ max_low a b c h k = grind arith
 
 pub past_sent_low : (g : Kept) (d : Segment) (n : ℕ) → AreLow g → n + segment_length d ≤ 9223372036854775808 → AreLow (past_sent g d n)
 past_sent_low g d n h e =
-    low_if (is_opening_syn d) g (record g { sent = max g.sent (n + segment_length d) }) h (record { sent = max_low g.sent (n + segment_length d) 9223372036854775808 h.sent e; heard = h.heard })
+    low_if (is_opening_syn d) g _ h
+    (low_if (resets g.late d) (record g { late = None }) (record g { sent = max g.sent (n + segment_length d); settled = g.settled || not (has SYN d) }) (record { sent = h.sent; heard = h.heard })
+    (record { sent = max_low g.sent (n + segment_length d) 9223372036854775808 h.sent e; heard = h.heard }))
 
 pub past_heard_low : (g : Kept) (d : Segment) (n : ℕ) → AreLow g → n + segment_length d ≤ 9223372036854775808 → AreLow (past_heard g d n)
 past_heard_low g d n h e =
-    low_if (is_opening_syn d) g (record g { heard = max g.heard (n + segment_length d) }) h (record { sent = h.sent; heard = max_low g.heard (n + segment_length d) 9223372036854775808 h.heard e })
+    low_if (is_of_connection g d) (record g { heard = max g.heard (n + segment_length d); settled = g.settled || not (has SYN d) }) g
+    (record { sent = h.sent; heard = max_low g.heard (n + segment_length d) 9223372036854775808 h.heard e }) h
 
 -- ---- the connection in use stays
 
@@ -67,10 +72,12 @@ same_if true x y i h k = h
 same_if false x y i h k = k
 
 pub past_sent_isns : (g : Kept) (d : Segment) (n : ℕ) → (past_sent g d n).isns ≡ g.isns
-past_sent_isns g d n = same_if (is_opening_syn d) g (record g { sent = max g.sent (n + segment_length d) }) g.isns refl refl
+past_sent_isns g d n =
+    same_if (is_opening_syn d) g _ g.isns refl
+    (same_if (resets g.late d) (record g { late = None }) (record g { sent = max g.sent (n + segment_length d); settled = g.settled || not (has SYN d) }) g.isns refl refl)
 
 pub past_heard_isns : (g : Kept) (d : Segment) (n : ℕ) → (past_heard g d n).isns ≡ g.isns
-past_heard_isns g d n = same_if (is_opening_syn d) g (record g { heard = max g.heard (n + segment_length d) }) g.isns refl refl
+past_heard_isns g d n = same_if (is_of_connection g d) (record g { heard = max g.heard (n + segment_length d); settled = g.settled || not (has SYN d) }) g g.isns refl refl
 
 if_false : {X : Type 0} (b : Bool) (x y : X) → b ≡ false → (if b then x else y) ≡ y
 if_false true x y e = absurd (cc)
@@ -78,6 +85,26 @@ if_false false x y e = refl
 
 pub entered_later : (g : Kept) (d : Segment) → has SYN d ≡ false → entered g d ≡ g
 entered_later g d e = if_false (has SYN d) (if has ACK d then accepting g d.sequence (answered_isn d) else opening g d.sequence) g e
+
+-- ---- a key that is used once
+
+or_false : (a b : Bool) → (a || b) ≡ false → (a ≡ false) × (b ≡ false)
+or_false true b e = absurd (cc)
+or_false false b e = (refl, e)
+
+pub later_kept : (g : Kept) (d : Segment) → is_single_use g d ≡ false → has SYN d ≡ false
+later_kept g d e = (or_false (has SYN d) (resets g.late d) e).0
+
+-- where the key is kept, the segment is sealed by what is kept
+pub kept_for_kept : (g : Kept) (d : Segment) → is_single_use g d ≡ false → kept_for g d ≡ g
+kept_for_kept g d e = if_false (resets g.late d) (as_late g g.late) g (or_false (has SYN d) (resets g.late d) e).1
+
+once_by : (b : Bool) (x g : Kept) (d : Segment) → (b || resets (if b then x else g).late d) ≡ (b || resets g.late d)
+once_by true x g d = refl
+once_by false x g d = refl
+
+pub once_entered : (g : Kept) (d : Segment) → is_single_use (entered g d) d ≡ is_single_use g d
+once_entered g d = once_by (has SYN d) (if has ACK d then accepting g d.sequence (answered_isn d) else opening g d.sequence) g d
 
 -- ---- tables that suit
 
@@ -127,9 +154,14 @@ context_bond pair None c d x e = by (has SYN d) e
     by true e = e
     by false e = absurd (cc)
 
-pub has_key : (rows : List Row) (pair : Pair) (g : Kept) (c : Cache) (d : Segment) (p : Plan) (r : Row) → Suits rows (record { pair = pair; kept = g; keys = c }) → p.sending.row ≤ length rows
-    → context_of d (own_isn g) (peer_isn g) ≡ Some (bytes_of p.context) → d.source ≡ pair.local → d.destination ≡ pair.remote → slice_get rows (p.sending.row - 1) ≡ Some r → HasKey c d p r
-has_key rows pair g c d p r f high context from to here =
+-- the context where the key is kept is that of the connection in use
+context_kept : (g : Kept) (d : Segment) (x : List ℕ) → context_of d (own_isn (kept_for g d)) (peer_isn (kept_for g d)) ≡ Some x → is_single_use g d ≡ false → context_of d (own_isn g) (peer_isn g) ≡ Some x
+context_kept g d x context once = subst (λ (k : Kept). context_of d (own_isn k) (peer_isn k) ≡ Some x) (kept_for_kept g d once) context
+
+pub has_key : (rows : List Row) (pair : Pair) (c : Cache) (d : Segment) (p : Plan) (r : Row) → Suits rows (record { pair = pair; kept = p.kept; keys = c }) → p.sending.row ≤ length rows
+    → context_of d (own_isn (kept_for p.kept d)) (peer_isn (kept_for p.kept d)) ≡ Some (bytes_of p.context) → d.source ≡ pair.local → d.destination ≡ pair.remote → slice_get rows (p.sending.row - 1) ≡ Some r → HasKey c d p r
+has_key rows pair c d p r f high context from to here =
+    let g : Kept = p.kept in
     let a : Bond = bond pair g.isns c in
     let room = suits_room rows (record { pair = pair; kept = g; keys = c }) f in
     let pairs = bond_pair pair g.isns c in
@@ -137,25 +169,25 @@ has_key rows pair g c d p r f high context from to here =
     let x = bytes_of p.context in
     record {
       room = omega arith;
-      right = λ syn.
-          let one = outbound_key d a.pair a.own a.peer r x syn (from ∙ ap (λ (q : Pair). q.local) (sym pairs)) (to ∙ ap (λ (q : Pair). q.remote) (sym pairs)) (context_bond pair g.isns c d x context) in
+      right = λ once.
+          let one = outbound_key d a.pair a.own a.peer r x (later_kept g d once) (from ∙ ap (λ (q : Pair). q.local) (sym pairs)) (to ∙ ap (λ (q : Pair). q.remote) (sym pairs)) (context_bond pair g.isns c d x (context_kept g d x context once)) in
           subst (λ (k : Cache). IsRight (kept k p.sending.row Outbound) (traffic_key r.algorithm r.master x)) keys (kept_right rows a p.sending.row Outbound r (traffic_key r.algorithm r.master x) f here one);
     }
 
 -- the table suits once the key was used
 pub suits_sealed : (rows : List Row) (pair : Pair) (g : Kept) (c e : Cache) (d : Segment) (p : Plan) (r : Row) → Suits rows (record { pair = pair; kept = g; keys = c })
-    → context_of d (own_isn g) (peer_isn g) ≡ Some (bytes_of p.context) → d.source ≡ pair.local → d.destination ≡ pair.remote → slice_get rows (p.sending.row - 1) ≡ Some r
-    → e ≡ keys_after (has SYN d) c p.sending.row Outbound (traffic_key r.algorithm r.master (bytes_of p.context)) → Suits rows (record { pair = pair; kept = g; keys = e })
+    → context_of d (own_isn (kept_for g d)) (peer_isn (kept_for g d)) ≡ Some (bytes_of p.context) → d.source ≡ pair.local → d.destination ≡ pair.remote → slice_get rows (p.sending.row - 1) ≡ Some r
+    → e ≡ keys_after (is_single_use g d) c p.sending.row Outbound (traffic_key r.algorithm r.master (bytes_of p.context)) → Suits rows (record { pair = pair; kept = g; keys = e })
 suits_sealed rows pair g c e d p r f context from to here is =
     let a : Bond = bond pair g.isns c in
     let pairs = bond_pair pair g.isns c in
     let keys = bond_keys pair g.isns c in
     let x = bytes_of p.context in
     let key = traffic_key r.algorithm r.master x in
-    let same : e ≡ keys_after (has SYN d) a.keys p.sending.row Outbound key = is ∙ ap (λ (k : Cache). keys_after (has SYN d) k p.sending.row Outbound key) (sym keys) in
-    bond_with rows pair g.isns c e (fits_after (has SYN d) rows a p.sending.row Outbound key e same
-    (λ syn. ap (λ (o : Option Row). key_for o Outbound a.pair a.own a.peer) here
-    ∙ outbound_key d a.pair a.own a.peer r x syn (from ∙ ap (λ (q : Pair). q.local) (sym pairs)) (to ∙ ap (λ (q : Pair). q.remote) (sym pairs)) (context_bond pair g.isns c d x context)) f)
+    let same : e ≡ keys_after (is_single_use g d) a.keys p.sending.row Outbound key = is ∙ ap (λ (k : Cache). keys_after (is_single_use g d) k p.sending.row Outbound key) (sym keys) in
+    bond_with rows pair g.isns c e (fits_after (is_single_use g d) rows a p.sending.row Outbound key e same
+    (λ once. ap (λ (o : Option Row). key_for o Outbound a.pair a.own a.peer) here
+    ∙ outbound_key d a.pair a.own a.peer r x (later_kept g d once) (from ∙ ap (λ (q : Pair). q.local) (sym pairs)) (to ∙ ap (λ (q : Pair). q.remote) (sym pairs)) (context_bond pair g.isns c d x (context_kept g d x context once))) f)
 
 -- another connection, whose keys aren't kept
 pub suits_other : (rows : List Row) (pair : Pair) (g h : Kept) (c : Cache) → Suits rows (record { pair = pair; kept = g; keys = c }) → Suits rows (record { pair = pair; kept = h; keys = empty c.rows })

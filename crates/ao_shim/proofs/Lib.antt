@@ -1,6 +1,5 @@
 pub mod InLaws
 pub mod KeptLaws
-pub mod LongLaws
 pub mod OutLaws
 pub mod PlanLaws
 pub mod SealLaws

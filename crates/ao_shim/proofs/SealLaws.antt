@@ -25,7 +25,7 @@ use Rattle.shim_relay.proofs.LaidLaws.{laid_ip_fits, laid_long, relaid_long, rel
 use Rattle.ao_mac.specs.Macs.{IsMacOf}
 use Rattle.ao_shim.specs.Guards.{Written}
 use Rattle.ao_shim.specs.Plans.{ao_after, HasOne}
-use Rattle.ao_shim.proofs.LongLaws.{rewritten_long, going_shortens}
+use Rattle.law_shim.proofs.LongLaws.{rewritten_long, going_shortens}
 
 -- ---- what is laid out fits its fields
 

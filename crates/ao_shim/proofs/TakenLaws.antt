@@ -16,7 +16,7 @@ use Rattle.ao_check.specs.Verdicts.{Tells, IsRefusal}
 use Rattle.tcp_options.specs.Views.{view_ao}
 use Rattle.ao_shim.specs.Arrivals.{row_heard}
 use Rattle.ao_shim.proofs.InLaws.{row_is}
-use Rattle.ao_shim.proofs.LongLaws.{rewritten_long, coming_shortens}
+use Rattle.law_shim.proofs.LongLaws.{rewritten_long, coming_shortens}
 
 -- what was found of a segment that passed
 pub record IsPassed (d : Segment) (x : Passing) (j : Judgement) : Type 0 where

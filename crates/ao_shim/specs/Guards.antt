@@ -1,13 +1,13 @@
 -- A guard of a pair of sockets, the tables that suit it, and what its calls leave.
-use Rattle.std.specs.Prelude.{◌≡◌, ◌≤◌, ◌^◌, ℕ, List, ◌++◌, length, drop}
+use Rattle.std.specs.Prelude.{◌≡◌, ◌≤◌, ◌^◌, ℕ, Bool, ◌||◌, List, ◌++◌, length, drop}
 use Rattle.std.specs.Prelude.{Option, Some, None, Ok}
 use Rattle.book_base.specs.declared.address.Pair.{Pair}
-use Rattle.book_segments.specs.Segments.{has, SYN, spell}
+use Rattle.book_segments.specs.Segments.{Segment, has, SYN, spell}
 use Rattle.book_keys.specs.Rows.{Row}
 use Rattle.book_shim.specs.declared.kept.Isns.{Isns}
 use Rattle.book_shim.specs.declared.kept.Kept.{Kept}
-use Rattle.book_shim.specs.Keeping.{Setting, fresh}
-use Rattle.book_shim.specs.Leaving.{Sealed, outbound}
+use Rattle.book_shim.specs.Keeping.{Setting}
+use Rattle.book_shim.specs.Leaving.{Sealed, outbound, resets}
 use Rattle.book_shim.specs.Arriving.{Opened, inbound}
 use Rattle.ao_kdf.specs.declared.way.Way.TheVariants.{Outbound}
 use Rattle.ao_kdf.specs.Cache.{Cache, kept}
@@ -24,11 +24,6 @@ abbrev pub bond : Pair → Option Isns → Cache → Bond
 bond pair None keys = record { pair = pair; own = 0; peer = None; current = None; keys = keys }
 bond pair (Some c) keys =
     record { pair = pair; own = c.own; peer = Some c.peer; current = None; keys = keys }
-
--- what is kept of a pair of which a connection was saved (own)
-abbrev pub resumed : Isns → (sent heard : ℕ) → (current : Option ℕ) → Kept
-resumed isns sent heard current =
-    record fresh { isns = Some isns; sent = sent; heard = heard; current = current }
 
 -- the table suits the guard: there is room for the keys of its rows, and those that are kept are
 -- theirs, in the connection in use (own)
@@ -61,7 +56,13 @@ pub record AreLow (g : Kept) : Type 0 where
   pub sent : g.sent ≤ 2 ^ 63
   pub heard : g.heard ≤ 2 ^ 63
 
--- the steps that a datagram costs that was sealed: one with SYN, and one where the key of its row
--- isn't kept (own)
-abbrev pub sealing_steps : Cache → Sealed → ℕ
-sealing_steps keys m = steps_of (has SYN m.given) (kept keys m.sending.number Outbound)
+-- the key of a segment of the own kernel is used once and isn't kept: the segment has SYN, or resets
+-- a late connection (own)
+abbrev pub is_single_use : Kept → Segment → Bool
+is_single_use g d = has SYN d || resets g.late d
+
+-- the steps that a datagram costs that was sealed: one where its key is used once, and one where the
+-- key of its row isn't kept (own)
+abbrev pub sealing_steps : Kept → Cache → Sealed → ℕ
+sealing_steps before keys m =
+    steps_of (is_single_use before m.given) (kept keys m.sending.number Outbound)

@@ -6,7 +6,7 @@ use Rattle.book_base.specs.declared.address.Pair.{Pair}
 use Rattle.book_base.specs.Algorithms.{mac_length_of}
 use Rattle.book_segments.specs.Options.{Ao, One, find_ao, plains, listed, options_of}
 use Rattle.book_segments.specs.Options.{ao_kind, ao_head_length}
-use Rattle.book_segments.specs.Segments.{Segment, Read, reading, has, SYN, segment_length}
+use Rattle.book_segments.specs.Segments.{Segment, Read, reading, segment_length}
 use Rattle.book_macs.specs.Contexts.{context_of, bytes_of}
 use Rattle.book_macs.specs.Keys.{traffic_key}
 use Rattle.book_keys.specs.Rows.{Row}
@@ -16,11 +16,12 @@ use Rattle.book_shim.specs.declared.kept.Kept.{Kept}
 use Rattle.book_shim.specs.Keeping.{own_isn, peer_isn}
 use Rattle.book_shim.specs.Relaying.{fitted, length_in_header}
 use Rattle.book_shim.specs.Leaving.{signs, entered, no_code, with_ao, input_for, code_for}
-use Rattle.book_shim.specs.Leaving.{sealed_with, send_sealed}
+use Rattle.book_shim.specs.Leaving.{sealed_with, send_sealed, kept_for}
 use Rattle.key_coordination.specs.Sendings.{told}
 use Rattle.ao_kdf.specs.declared.way.Way.TheVariants.{Outbound}
 use Rattle.ao_kdf.specs.Cache.{Cache, kept, IsRight}
 use Rattle.ao_shim.specs.declared.plan.Plan.{Plan}
+use Rattle.ao_shim.specs.Guards.{is_single_use}
 
 -- a TCP-AO option with these key identifiers and this MAC (RFC 5925, section 2.2)
 abbrev pub ao_after : (key_id rnext_key_id : ℕ) → List ℕ → List ℕ
@@ -56,16 +57,18 @@ pub record IsPlanned (rows : List Row) (now : ℕ) (pair : Pair) (g : Kept) (d :
     (p : Plan) : Type 0 where
   pub ready : IsReady rows d p
   pub kept_is : p.kept ≡ entered g d
-  pub context_is : context_of d (own_isn p.kept) (peer_isn p.kept) ≡ Some (bytes_of p.context)
+  pub context_is : context_of d (own_isn (kept_for p.kept d)) (peer_isn (kept_for p.kept d))
+      ≡ Some (bytes_of p.context)
   pub ends : p.number + segment_length d ≤ 2 ^ 63
   pub sent_is : (mtu : ℕ)
       → send_sealed (record { rows = rows; now = now; mtu = mtu }) pair g d
       ≡ Ok (sealed_with (entered g d) d p.fitted
       (record { sending = ready.s; context = bytes_of p.context; number = p.number }))
 
--- where a key is kept for a segment without SYN, it is that of the plan's row and context (own)
+-- where a key is kept for a segment whose key isn't used once, it is that of the plan's row and
+-- context (own)
 pub record HasKey (keys : Cache) (d : Segment) (p : Plan) (row : Row) : Type 0 where
   pub room : p.sending.row ≤ keys.rows
-  pub right : has SYN d ≡ false
+  pub right : is_single_use p.kept d ≡ false
       → IsRight (kept keys p.sending.row Outbound)
       (traffic_key row.algorithm row.master (bytes_of p.context))

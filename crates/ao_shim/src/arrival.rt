@@ -68,6 +68,7 @@ fn judged_later<'a, L: Ledger>(
     ensures option { IfOk result (λ p. find_ao datagram.now.area ≡ One (view_ao p.option)) }
     ensures refusal { IfErr result (λ v. IsRefusal v) }
     ensures suits { Suits table.now.rows (record { pair = pair.now; kept = kept.now; keys = keys.new }) }
+    ensures rows { keys.new.rows ≡ keys.old.rows }
     ensures counted { (b : Bool) × Counted keys.old keys.new (judging table.now.rows pair.now now (find_ao datagram.now.area)) b Inbound false steps.old steps.new }
 {
     match kept.isns {
@@ -104,6 +105,7 @@ pub(crate) fn judged<'a, L: Ledger>(
     ensures option { IfOk result (λ p. find_ao datagram.now.area ≡ One (view_ao p.option)) }
     ensures refusal { IfErr result (λ v. IsRefusal v) }
     ensures suits { Suits table.now.rows (record { pair = pair.now; kept = kept.now; keys = keys.new }) }
+    ensures rows { keys.new.rows ≡ keys.old.rows }
     ensures most { steps.new ≤ steps.old + 1 }
     ensures counted { has SYN datagram.now ≡ false
         → (b : Bool) × Counted keys.old keys.new (judging table.now.rows pair.now now (find_ao datagram.now.area)) b Inbound false steps.old steps.new }

@@ -17,6 +17,7 @@ use book_shim::{Kept, Untaken};
 use key_table::Table;
 use shim_area::coming;
 use shim_relay::relay;
+use shim_rows::is_keyed;
 use std::sync::ledger::Ledger;
 use tcp_segment::read_datagram;
 
@@ -44,6 +45,7 @@ pub(crate) fn opened<L: Ledger>(
     ensures counted { (d : Segment) → reading bytes.now ≡ Read d → has SYN d ≡ false
         → (b : Bool) × Counted keys.old keys.new (judging table.now.rows pair.now now (find_ao d.area)) b Inbound false steps.old steps.new }
     ensures most { steps.new ≤ steps.old + 1 }
+    ensures rows { keys.new.rows ≡ keys.old.rows }
 {
     let datagram = match read_datagram(bytes) {
         Err(fault) => return Err(Untaken::Bad(fault)),
@@ -54,6 +56,9 @@ pub(crate) fn opened<L: Ledger>(
     }
     if !is_same_socket(&datagram.destination(), &pair.local) {
         return Err(Untaken::Foreign);
+    }
+    if !is_keyed(table, pair) {
+        return Err(Untaken::Unkeyed);
     }
     if !datagram.checksum_ok() {
         return Err(Untaken::Checksum);
@@ -66,15 +71,8 @@ pub(crate) fn opened<L: Ledger>(
     let area = coming(&datagram.options(), most);
     let end = relay(out, bytes, &datagram, area.as_slice());
     let number = passing.passed.number;
-    let kept = heard(
-        pair,
-        before,
-        table,
-        now,
-        &datagram,
-        number,
-        passing.option.rnext,
-    );
+    let asked = passing.option.rnext;
+    let kept = heard(pair, before, table, now, &datagram, number, asked);
     renew(keys, before, &kept);
     Ok((end, kept))
 }

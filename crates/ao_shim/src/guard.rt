@@ -3,7 +3,8 @@ ghost use Rattle.std.specs.Prelude.{◌≡◌, ◌≤◌, ◌^◌, List, length,
 ghost use Rattle.book_keys.specs.Rows.{Row};
 ghost use Rattle.book_shim.specs.Keeping.{fresh as book_fresh};
 ghost use Rattle.ao_kdf.specs.Cache.{empty};
-ghost use Rattle.ao_shim.specs.Guards.{Suits, resumed};
+ghost use Rattle.book_shim.specs.Saving.{resumed};
+ghost use Rattle.ao_shim.specs.Guards.{Suits};
 
 use ao_kdf::KeyCache;
 use book_base::Pair;
@@ -47,33 +48,37 @@ impl Guard {
         })
     }
 
-    /// A pair whose connection in use is known by what was saved of it: both initial sequence numbers, and
-    /// the numbers after the greatest that was sent and heard, at most 2^63; and the row that is current.
-    /// There is room for the keys of `rows` rows, no fewer than the table has.
+    /// Begins with another pair, of which nothing was seen, in the same memory.
     #[tactic(auto, using(crate::proofs::KeptLaws::suits_empty))]
-    pub fn resume(
-        alloc: Global,
-        pair: Pair,
-        rows: u8,
-        isns: Isns,
-        sent: u64,
-        heard: u64,
-        current: Option<u8>,
-    ) -> Result<Guard, AllocError>
+    pub fn begin(&mut self, pair: Pair)
+        ensures fresh { self.new ≡ record { pair = pair; kept = book_fresh; keys = empty self.old.keys.rows } }
+        ensures suits { (table : List Row) → length table ≤ self.old.keys.rows → Suits table self.new }
+    {
+        self.pair = pair;
+        self.kept = fresh();
+        self.keys.forget();
+    }
+
+    /// Goes on with another pair, in the same memory, whose connection in use is known by what was saved of
+    /// it: both initial sequence numbers, and the numbers after the greatest that was sent and heard, at most
+    /// 2^63; and the row that is current.
+    #[tactic(auto, using(crate::proofs::KeptLaws::suits_empty))]
+    pub fn resume(&mut self, pair: Pair, isns: Isns, sent: u64, heard: u64, current: Option<u8>)
         requires sent { sent ≤ 2 ^ 63 }
         requires heard { heard ≤ 2 ^ 63 }
-        ensures resumed { IfOk result (λ g. g ≡ record { pair = pair; kept = resumed isns sent heard current; keys = empty rows }) }
-        ensures suits { IfOk result (λ g. (table : List Row) → length table ≤ rows → Suits table g) }
+        ensures resumed { self.new ≡ record { pair = pair; kept = resumed isns sent heard current; keys = empty self.old.keys.rows } }
+        ensures suits { (table : List Row) → length table ≤ self.old.keys.rows → Suits table self.new }
     {
-        let keys = KeyCache::new(alloc, rows)?;
-        let kept = Kept {
+        self.pair = pair;
+        self.kept = Kept {
             isns: Some(isns),
+            settled: true,
             sent,
             heard,
             current,
             ..fresh()
         };
-        Ok(Guard { pair, kept, keys })
+        self.keys.forget();
     }
 
     /// The pair of sockets.

@@ -40,6 +40,7 @@ impl Guard {
         ensures unchanged { OnErr result ((self.new.kept ≡ self.old.kept) × (out.new ≡ out.old)) }
         ensures pair { self.new.pair ≡ self.old.pair }
         ensures suits { Suits table.now.rows self.new }
+        ensures rows { self.new.keys.rows ≡ self.old.keys.rows }
         ensures counted { (d : Segment) → reading bytes.now ≡ Read d → has SYN d ≡ false
             → (b : Bool) × Counted self.old.keys self.new.keys (judging table.now.rows self.old.pair now (find_ao d.area)) b Inbound false steps.old steps.new }
         ensures most { steps.new ≤ steps.old + 1 }

@@ -13,6 +13,7 @@ use book_base::Pair;
 use book_shim::{Kept, Unsent};
 use key_table::Table;
 use shim_kept::{is_same_connection, past_sent};
+use shim_rows::is_keyed;
 use std::sync::ledger::Ledger;
 use tcp_segment::read_datagram;
 
@@ -20,6 +21,7 @@ use tcp_segment::read_datagram;
 #[tactic(auto, using(crate::proofs::KeptLaws::suits_other, crate::proofs::KeptLaws::suits_same))]
 pub(crate) fn renew(keys: &mut KeyCache, before: &Kept, after: &Kept)
     ensures keys { before.now.isns ≡ after.now.isns → keys.new ≡ keys.old }
+    ensures rows { keys.new.rows ≡ keys.old.rows }
     ensures suits { (table : List Row) (pair : Sockets) → Suits table (record { pair = pair; kept = before.now; keys = keys.old }) → Suits table (record { pair = pair; kept = after.now; keys = keys.new }) }
 {
     if !is_same_connection(before, after) {
@@ -47,8 +49,9 @@ pub(crate) fn sealed<L: Ledger>(
     ensures refused { IfErr result (λ why. (mtu : ℕ) → outbound (record { rows = table.now.rows; now = now; mtu = mtu }) pair.now before.now bytes.now ≡ Err why) }
     ensures unchanged { OnErr result ((keys.new ≡ keys.old) × (out.new ≡ out.old) × (steps.new ≡ steps.old)) }
     ensures counted { (mtu : ℕ) (m : Sealed) → outbound (record { rows = table.now.rows; now = now; mtu = mtu }) pair.now before.now bytes.now ≡ Ok m
-        → steps.new ≡ steps.old + sealing_steps keys.old m }
+        → steps.new ≡ steps.old + sealing_steps before.now keys.old m }
     ensures most { steps.new ≤ steps.old + 1 }
+    ensures rows { keys.new.rows ≡ keys.old.rows }
 {
     let datagram = match read_datagram(bytes) {
         Err(fault) => return Err(Unsent::Bad(fault)),
@@ -59,6 +62,9 @@ pub(crate) fn sealed<L: Ledger>(
     }
     if !is_same_socket(&datagram.destination(), &pair.remote) {
         return Err(Unsent::Foreign);
+    }
+    if !is_keyed(table, pair) {
+        return Err(Unsent::Unkeyed);
     }
     let plan = match planned(pair, before, table, now, bytes, &datagram) {
         Err(why) => return Err(why),

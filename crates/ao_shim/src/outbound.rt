@@ -16,7 +16,8 @@ impl Guard {
     /// given; else the first refusal that holds, and then nothing is changed.
     ///
     /// The table suits the guard, and `out` has 20 bytes more than the datagram. At most one traffic key
-    /// is derived, one for a SYN, and none where the key of a segment without SYN is kept.
+    /// is derived: one for a SYN and for the RST that answers a late SYN with ACK, and for any other segment
+    /// none where its key is kept.
     pub fn outbound<L: Ledger>(
         &mut self,
         table: &Table,
@@ -32,8 +33,9 @@ impl Guard {
         ensures unchanged { OnErr result ((self.new ≡ self.old) × (out.new ≡ out.old) × (steps.new ≡ steps.old)) }
         ensures pair { self.new.pair ≡ self.old.pair }
         ensures suits { Suits table.now.rows self.new }
+        ensures rows { self.new.keys.rows ≡ self.old.keys.rows }
         ensures counted { (mtu : ℕ) (m : Sealed) → outbound (record { rows = table.now.rows; now = now; mtu = mtu }) self.old.pair self.old.kept bytes.now ≡ Ok m
-            → steps.new ≡ steps.old + sealing_steps self.old.keys m }
+            → steps.new ≡ steps.old + sealing_steps self.old.kept self.old.keys m }
         ensures most { steps.new ≤ steps.old + 1 }
     {
         let pair = self.pair;

@@ -1,8 +1,9 @@
 //! What a datagram of the own kernel is to be sealed with.
-ghost use Rattle.std.specs.Prelude.{◌≡◌, ◌+◌, ◌≤◌, ◌^◌, ◌∷◌, ◌++◌, [], ℕ, List, ◌-◌, Some, length, replicate, slice_get, IfOk, IfErr, Err};
+ghost use Rattle.std.specs.Prelude.{◌≡◌, ◌+◌, ◌≤◌, ◌^◌, ◌∷◌, ◌++◌, [], ℕ, true, List, ◌-◌, Some, length, replicate, slice_get, IfOk, IfErr, Err};
 ghost use Rattle.book_base.specs.Algorithms.{mac_length_of as mac_length_by};
 ghost use Rattle.book_keys.specs.Rows.{Row};
 ghost use Rattle.book_segments.specs.Segments.{Read, reading};
+ghost use Rattle.book_shim.specs.Keeping.{is_keyed};
 ghost use Rattle.book_shim.specs.Leaving.{send_sealed};
 ghost use Rattle.ao_shim.specs.Plans.{IsPlanned, ao_after};
 
@@ -13,7 +14,7 @@ use book_shim::{Kept, Unsent};
 use key_coordination::Sending;
 use key_table::Table;
 use shim_area::{Area, fitted};
-use shim_kept::{entered, own_isn, peer_isn};
+use shim_kept::{entered, kept_for, own_isn, peer_isn};
 use shim_relay::length_told;
 use shim_rows::chosen;
 use tcp_options::{AO_HEAD, AO_KIND};
@@ -73,7 +74,8 @@ fn mac_length_of(table: &Table, row: u8) -> u8
     table.row(row).algorithm().mac_length()
 }
 
-/// What a datagram of the own kernel is to be sealed with, or the first refusal that holds.
+/// What a datagram of the own kernel is to be sealed with, or the first refusal that holds; some row is for
+/// the pair.
 pub(crate) fn planned(
     pair: &Pair,
     before: &Kept,
@@ -83,6 +85,7 @@ pub(crate) fn planned(
     datagram: &Datagram<'_>,
 ) -> Result<Plan, Unsent>
     requires read { reading bytes.now ≡ Read datagram.now }
+    requires keyed { is_keyed table.now.rows pair.now ≡ true }
     requires sent { before.now.sent ≤ 2 ^ 63 }
     requires heard { before.now.heard ≤ 2 ^ 63 }
     ensures planned { IfOk result (λ p. IsPlanned table.now.rows now pair.now before.now datagram.now p) }
@@ -93,11 +96,12 @@ pub(crate) fn planned(
         return Err(Unsent::Signed);
     }
     let kept = entered(before, datagram);
-    let context = match context_for(datagram, own_isn(&kept), peer_isn(&kept)) {
+    let under = kept_for(&kept, datagram);
+    let context = match context_for(datagram, own_isn(&under), peer_isn(&under)) {
         None => return Err(Unsent::NoContext),
         Some(context) => context,
     };
-    let number = match number_of(datagram, kept.sent) {
+    let number = match number_of(datagram, under.sent) {
         None => return Err(Unsent::Range),
         Some(number) => number,
     };

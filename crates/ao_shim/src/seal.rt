@@ -5,7 +5,7 @@ ghost use Rattle.book_shim.specs.Relaying.{with_area, length_in_header};
 ghost use Rattle.shim_relay.specs.Laying.{laid};
 ghost use Rattle.book_base.specs.Algorithms.{mac_length_of};
 ghost use Rattle.book_segments.specs.Bytes.{ring};
-ghost use Rattle.book_segments.specs.Segments.{Segment, Read, reading, has, SYN, spell};
+ghost use Rattle.book_segments.specs.Segments.{Segment, Read, reading, spell};
 ghost use Rattle.book_macs.specs.Contexts.{bytes_of};
 ghost use Rattle.book_macs.specs.Keys.{traffic_key};
 ghost use Rattle.book_keys.specs.Rows.{Row};
@@ -13,7 +13,7 @@ ghost use Rattle.ao_kdf.specs.Cache.{kept, IsRight};
 ghost use Rattle.ao_kdf.specs.declared.way.Way.TheVariants.{Outbound};
 ghost use Rattle.ao_mac.specs.Macs.{IsMacOf};
 ghost use Rattle.ao_check.specs.Bonds.{keys_after, steps_of};
-ghost use Rattle.ao_shim.specs.Guards.{Written};
+ghost use Rattle.ao_shim.specs.Guards.{Written, is_single_use as book_is_single_use};
 ghost use Rattle.ao_shim.specs.Plans.{IsReady, HasOne, HasKey, sealed_by};
 
 use crate::plan::{Plan, with_ao, zeros};
@@ -21,12 +21,22 @@ use ao_base::Steps;
 use ao_check::mac_under;
 use ao_kdf::KeyCache;
 use ao_mac::MacBytes;
+use book_shim::Kept;
 use key_table::Table;
+use shim_kept::resets;
 use shim_relay::{lay_out, relay};
 use std::sync::ledger::Ledger;
 use tcp_options::AoFound;
 use tcp_segment::{Datagram, Flag, read_datagram};
 use wrap_seq::Counter;
+
+/// Whether the key of a datagram is used once and isn't kept: the datagram has SYN, or resets a late
+/// connection.
+fn is_single_use(kept: &Kept, datagram: &Datagram<'_>) -> bool
+    ensures { result ≡ book_is_single_use kept.now datagram.now }
+{
+    datagram.has(Flag::Syn) || resets(kept, datagram)
+}
 
 /// The MAC of a datagram that is laid out, its MAC field zero.
 fn code_of<L: Ledger>(
@@ -34,22 +44,22 @@ fn code_of<L: Ledger>(
     table: &Table,
     plan: &Plan,
     laid: &[u8],
-    syn: bool,
+    once: bool,
     steps: &mut Steps<L>,
 ) -> MacBytes
     requires low { 1 ≤ plan.now.sending.row }
     requires high { plan.now.sending.row ≤ length table.now.rows }
     requires room { plan.now.sending.row ≤ keys.old.rows }
     requires laid { HasOne laid.now }
-    requires kept { (r : Row) → slice_get table.now.rows (plan.now.sending.row - 1) ≡ Some r → syn ≡ false → IsRight (kept keys.old plan.now.sending.row Outbound) (traffic_key r.algorithm r.master (bytes_of plan.now.context)) }
+    requires kept { (r : Row) → slice_get table.now.rows (plan.now.sending.row - 1) ≡ Some r → once ≡ false → IsRight (kept keys.old plan.now.sending.row Outbound) (traffic_key r.algorithm r.master (bytes_of plan.now.context)) }
     ensures mac { (r : Row) (d : Segment) → slice_get table.now.rows (plan.now.sending.row - 1) ≡ Some r → reading laid.now ≡ Read d
         → IsMacOf result r.algorithm (traffic_key r.algorithm r.master (bytes_of plan.now.context)) (plan.now.number / ring) d r.with_options }
     ensures length { (r : Row) → slice_get table.now.rows (plan.now.sending.row - 1) ≡ Some r → length result ≡ mac_length_of r.algorithm }
     ensures keys { (r : Row) → slice_get table.now.rows (plan.now.sending.row - 1) ≡ Some r
-        → keys.new ≡ keys_after syn keys.old plan.now.sending.row Outbound (traffic_key r.algorithm r.master (bytes_of plan.now.context)) }
-    ensures kept { (r : Row) → slice_get table.now.rows (plan.now.sending.row - 1) ≡ Some r → syn ≡ false
+        → keys.new ≡ keys_after once keys.old plan.now.sending.row Outbound (traffic_key r.algorithm r.master (bytes_of plan.now.context)) }
+    ensures kept { (r : Row) → slice_get table.now.rows (plan.now.sending.row - 1) ≡ Some r → once ≡ false
         → kept keys.new plan.now.sending.row Outbound ≡ Some (traffic_key r.algorithm r.master (bytes_of plan.now.context)) }
-    ensures counted { steps.new ≡ steps.old + steps_of syn (kept keys.old plan.now.sending.row Outbound) }
+    ensures counted { steps.new ≡ steps.old + steps_of once (kept keys.old plan.now.sending.row Outbound) }
 {
     let number = plan.sending.row;
     let extension = Counter::of(plan.number).extension;
@@ -72,7 +82,7 @@ fn code_of<L: Ledger>(
         extension,
         &datagram,
         option,
-        syn,
+        once,
         steps,
     )
 }
@@ -106,15 +116,15 @@ pub(crate) fn seal<L: Ledger>(
     requires room { length bytes.now + 20 ≤ length out.old }
     ensures written { (r : IsReady table.now.rows datagram.now plan.now) → Written (spell (sealed_by datagram.now plan.now r.s)) out.old out.new result }
     ensures keys { (r : Row) → slice_get table.now.rows (plan.now.sending.row - 1) ≡ Some r
-        → keys.new ≡ keys_after (has SYN datagram.now) keys.old plan.now.sending.row Outbound (traffic_key r.algorithm r.master (bytes_of plan.now.context)) }
-    ensures kept { (r : Row) → slice_get table.now.rows (plan.now.sending.row - 1) ≡ Some r → has SYN datagram.now ≡ false
+        → keys.new ≡ keys_after (book_is_single_use plan.now.kept datagram.now) keys.old plan.now.sending.row Outbound (traffic_key r.algorithm r.master (bytes_of plan.now.context)) }
+    ensures kept { (r : Row) → slice_get table.now.rows (plan.now.sending.row - 1) ≡ Some r → book_is_single_use plan.now.kept datagram.now ≡ false
         → kept keys.new plan.now.sending.row Outbound ≡ Some (traffic_key r.algorithm r.master (bytes_of plan.now.context)) }
-    ensures counted { steps.new ≡ steps.old + steps_of (has SYN datagram.now) (kept keys.old plan.now.sending.row Outbound) }
+    ensures counted { steps.new ≡ steps.old + steps_of (book_is_single_use plan.now.kept datagram.now) (kept keys.old plan.now.sending.row Outbound) }
 {
-    let syn = datagram.has(Flag::Syn);
+    let once = is_single_use(&plan.kept, datagram);
     let blank = with_ao(&plan.fitted, plan.sending, zeros(plan.mac_length));
     lay_blank(out, bytes, datagram, blank.as_slice());
-    let code = code_of(keys, table, plan, out, syn, steps);
+    let code = code_of(keys, table, plan, out, once, steps);
     let whole = with_ao(&plan.fitted, plan.sending, code.as_slice());
     relay(out, bytes, datagram, whole.as_slice())
 }

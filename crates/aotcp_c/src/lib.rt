@@ -18,6 +18,7 @@ mod receive;
 mod rows;
 mod shapes;
 mod shim_calls;
+mod shim_counters;
 mod shim_handle;
 mod shim_numbers;
 mod shim_saved;

@@ -1,7 +1,7 @@
 //! The handle of a shim, and what it holds.
 ghost use Rattle.std.specs.Prelude.{◌≡◌, true, Some, None, Option, is_some, option_map};
 ghost use Rattle.std.specs.declared.alloc.Global.{Global as Heap};
-ghost use Rattle.shim_pairs.specs.Holdings.{Holding as OneShim};
+ghost use Rattle.shim_pairs.specs.Holdings.{ShimState as OneShim};
 ghost use Rattle.aotcp_c.specs.Held.{content, held_shim};
 
 use loose::Loose;

@@ -45,7 +45,6 @@ fn unsent_cause(why: PairUnsent) -> u8
     match why {
         PairUnsent::Unsent(Unsent::Bad(_)) => 1,
         PairUnsent::NoNode => 2,
-        PairUnsent::Memory => 3,
         PairUnsent::Unsent(Unsent::Signed) => 6,
         PairUnsent::Unsent(Unsent::NoContext) => 7,
         PairUnsent::Unsent(Unsent::Range) => 8,
@@ -53,6 +52,7 @@ fn unsent_cause(why: PairUnsent) -> u8
         PairUnsent::Unsent(Unsent::NoRoom) => 10,
         PairUnsent::Unsent(Unsent::TooLong) => 11,
         PairUnsent::Unsent(Unsent::Foreign) => 12,
+        PairUnsent::Unsent(Unsent::Unkeyed) => 13,
     }
 }
 
@@ -73,10 +73,10 @@ fn taken_cause(why: PairUntaken) -> u8
     match why {
         PairUntaken::Untaken(Untaken::Bad(_)) => 1,
         PairUntaken::NoNode => 2,
-        PairUntaken::Memory => 3,
         PairUntaken::Untaken(Untaken::Checksum) => 4,
         PairUntaken::Untaken(Untaken::Refused(_)) => 5,
         PairUntaken::Untaken(Untaken::Foreign) => 12,
+        PairUntaken::Untaken(Untaken::Unkeyed) => 13,
     }
 }
 

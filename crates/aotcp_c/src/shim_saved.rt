@@ -1,11 +1,10 @@
 //! What a shim keeps is saved, and brought back.
-ghost use Rattle.std.specs.Prelude.{◌≡◌, ◌≢◌, slice_get, true};
-ghost use Rattle.shim_pairs.specs.Holdings.{saved_of};
+ghost use Rattle.std.specs.Prelude.{◌≡◌, ◌≢◌, true};
 ghost use Rattle.aotcp_c.specs.Codes.{ok};
 ghost use Rattle.aotcp_c.specs.Shapes.{pair_of};
-ghost use Rattle.aotcp_c.specs.Shims.{OnShim, Restores, RestoresAt, SavesAt, are_low, key_of, restored_code, saved_of_c, shim_in};
+ghost use Rattle.aotcp_c.specs.Shims.{OnShim, Restores, RestoresAt, Saves, are_low, key_of, restored_code, saved_of_c, shim_in};
 
-use crate::codes::{FAMILY, NO_STACK, NOTHING, OK, ROW};
+use crate::codes::{FAMILY, NO_CONNECTION, NO_STACK, NOTHING, OK, ROW};
 use crate::pairs::pair_of;
 use crate::shim_handle::ShimHandle;
 use crate::shim_numbers::saved_told;
@@ -19,13 +18,17 @@ use std::mem;
 /// The greatest number.
 const GREATEST: u64 = 1 << 63;
 
-/// What is saved of the connection at this place.
+/// What is saved of the pair at this place.
 fn save(shim: &Shim, at: u32, told: &mut CSaved) -> i32
-    ensures saves { SavesAt (slice_get (saved_of shim.now.tables shim.now.entries) at) told.new result }
+    ensures saves { Saves at shim.now told.new result }
     ensures kept { result ≢ ok → told.new ≡ told.old }
 {
-    match shim.saved(at as usize) {
-        None => NOTHING,
+    let at = at as usize;
+    if at >= shim.pairs() {
+        return NOTHING;
+    }
+    match shim.saved(at) {
+        None => NO_CONNECTION,
         Some(saved) => {
             *told = saved_told(&saved);
             OK
@@ -39,7 +42,6 @@ fn restored_code(answer: Result<(), RestoreRefusal>) -> i32
 {
     match answer {
         Ok(()) => 0,
-        Err(RestoreRefusal::Memory) => 3,
         Err(RestoreRefusal::Held) => 13,
         Err(RestoreRefusal::NoNode) => 10,
     }
@@ -64,7 +66,7 @@ fn key_of(saved: &CSaved) -> Option<u8>
 }
 
 /// Goes on with a connection whose numbers are low.
-fn resume(alloc: Global, shim: &mut Shim, now: u64, pair: Pair, saved: &CSaved) -> i32
+fn resume(shim: &mut Shim, now: u64, pair: Pair, saved: &CSaved) -> i32
     requires low { are_low saved.now ≡ true }
     ensures { Restores now shim.old shim.new (saved_of_c pair saved.now) result }
 {
@@ -78,18 +80,18 @@ fn resume(alloc: Global, shim: &mut Shim, now: u64, pair: Pair, saved: &CSaved) 
         heard: saved.heard,
         key_id: key_of(saved),
     };
-    restored_code(shim.restore(alloc, now, &known))
+    restored_code(shim.restore(now, &known))
 }
 
 /// Goes on with a connection.
-fn restore(alloc: Global, shim: &mut Shim, now: u64, saved: &CSaved) -> i32
+fn restore(shim: &mut Shim, now: u64, saved: &CSaved) -> i32
     ensures { RestoresAt (pair_of saved.now.pair) (are_low saved.now) now shim.old shim.new saved.now result }
 {
     match pair_of(&saved.pair) {
         None => FAMILY,
         Some(pair) => {
             if are_low(saved) {
-                resume(alloc, shim, now, pair, saved)
+                resume(shim, now, pair, saved)
             } else {
                 ROW
             }
@@ -97,7 +99,7 @@ fn restore(alloc: Global, shim: &mut Shim, now: u64, saved: &CSaved) -> i32
     }
 }
 
-/// What is saved of the connection at this place, from 0, among the pairs that have one.
+/// What is saved of the pair at this place, from 0, in the order of pairs, if it has a connection.
 #[unsafe(no_mangle)]
 pub extern "C" fn aotcp_shim_save(
     alloc: Global,
@@ -106,7 +108,7 @@ pub extern "C" fn aotcp_shim_save(
     saved: &mut CSaved,
 ) -> i32
     ensures saves { OnShim (shim_in handle.old) (shim_in handle.new) result
-        (λ h k. SavesAt (slice_get (saved_of h.tables h.entries) at) saved.new result × (k ≡ h)) }
+        (λ h k. Saves at h saved.new result × (k ≡ h)) }
     ensures kept { result ≢ ok → saved.new ≡ saved.old }
 {
     match mem::replace(handle, ShimHandle::none()).into_box(alloc) {
@@ -132,7 +134,7 @@ pub extern "C" fn aotcp_shim_restore(
 {
     match mem::replace(handle, ShimHandle::none()).into_box(alloc) {
         Some(mut b) => {
-            let code = restore(alloc, &mut b, now, saved);
+            let code = restore(&mut b, now, saved);
             *handle = ShimHandle::of(b);
             code
         }

@@ -35,9 +35,12 @@ fn made_shim(
             *fault = fault_of(why);
             Err(FAULT)
         }
-        Ok(tables) => match Box::new(alloc, Shim::new(alloc, tables, most)) {
+        Ok(tables) => match Shim::new(alloc, tables, most) {
             Err(_) => Err(MEMORY),
-            Ok(b) => Ok(b),
+            Ok(shim) => match Box::new(alloc, shim) {
+                Err(_) => Err(MEMORY),
+                Ok(b) => Ok(b),
+            },
         },
     }
 }
@@ -72,8 +75,8 @@ fn put_shim(
     }
 }
 
-/// A shim for the nodes of a key file, which keeps at most `most` pairs, 1 to 4,096. The handle holds it then;
-/// after any other answer it is as it was.
+/// A shim for the nodes of a key file, which keeps at most `most` pairs, 1 to 4,096, and takes all its memory. The
+/// handle holds it then; after any other answer it is as it was.
 #[unsafe(no_mangle)]
 pub extern "C" fn aotcp_shim_new(
     alloc: Global,

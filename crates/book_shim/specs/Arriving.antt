@@ -1,6 +1,6 @@
 -- What becomes of a datagram from the peer (RFC 5925, section 7.5). The file's tops: `take_in` and
 -- `inbound`.
-use Rattle.std.specs.Prelude.{ℕ, ◌+◌, ◌&&◌, ◌||◌, Bool, not, max, nat_lt, if◌then◌else◌, List}
+use Rattle.std.specs.Prelude.{ℕ, ◌+◌, ◌&&◌, ◌||◌, Bool, true, not, max, nat_lt, if◌then◌else◌, List}
 use Rattle.std.specs.Prelude.{Option, Some, None, is_some, Result, Ok, Err}
 use Rattle.book_base.specs.declared.address.Pair.{Pair}
 use Rattle.book_base.specs.Results.{◌>>=◌}
@@ -11,11 +11,12 @@ use Rattle.book_endpoint.specs.declared.verdict.Verdict.TheVariants.{NoContext}
 use Rattle.book_endpoint.specs.Verdicts.{Finding, Judgement, Known, judge}
 use Rattle.book_endpoint.specs.Arrivals.{from_peer}
 use Rattle.book_shim.specs.declared.refusal.Untaken.{Untaken}
-use Rattle.book_shim.specs.declared.refusal.Untaken.TheVariants.{Bad, Foreign, Checksum, Refused}
+use Rattle.book_shim.specs.declared.refusal.Untaken.TheVariants.{Bad, Foreign, Unkeyed, Checksum}
+use Rattle.book_shim.specs.declared.refusal.Untaken.TheVariants.{Refused}
 use Rattle.book_shim.specs.declared.kept.Isns.{Isns}
 use Rattle.book_shim.specs.declared.kept.Kept.{Kept}
-use Rattle.book_shim.specs.Keeping.{Setting, is_the_number, are_isns, is_opening_syn, answered_isn}
-use Rattle.book_shim.specs.Keeping.{connection_begun, demand}
+use Rattle.book_shim.specs.Keeping.{Setting, own_isn, is_the_number, are_isns, is_opening_syn}
+use Rattle.book_shim.specs.Keeping.{answered_isn, connection_begun, demand, is_keyed}
 use Rattle.book_shim.specs.Relaying.{coming_area, most_mss, relaid}
 
 -- what is handed to the own kernel in place of a datagram from the peer, and what is kept (own)
@@ -24,10 +25,12 @@ pub record Opened : Type 0 where
   pub passed : Finding  -- what the check found
   pub segment : Segment
 
--- the SYN with ACK answers the own SYN that is out, or is the connection's in use, again (own)
+-- the SYN with ACK answers the own SYN that is out, the one given up, or that of the connection in
+-- use (RFC 5925, section 5.2, and own)
 abbrev pub is_awaited : Kept → Segment → Bool
 is_awaited g d =
-    is_the_number g.opening (answered_isn d) || are_isns g.isns (answered_isn d) d.sequence
+    is_the_number g.opening (answered_isn d)
+    || (is_the_number g.given_up (answered_isn d) || is_the_number (own_isn g) (answered_isn d))
 
 -- what is known for a segment without SYN: the numbers of the connection in use (RFC 5925, section
 -- 5.2)
@@ -53,26 +56,46 @@ abbrev pub as_taken : Judgement → Result Finding Untaken
 as_taken (Ok p) = Ok p
 as_taken (Err why) = Err (Refused why)
 
--- what is kept once a SYN with ACK passed: with it the connection begins whose own SYN was out (RFC
--- 9293, section 3.5)
+-- what is kept once another SYN with ACK came for the own SYN of the connection in use: the peer
+-- began anew, as long as nothing but SYNs passed (own)
+abbrev pub answered_anew : Kept → (own peer : ℕ) → Kept
+answered_anew g own peer =
+    if are_isns g.isns own peer || g.settled then g
+    else record g { isns = Some (record { own = own; peer = peer }); heard = peer + 1 }
+
+-- what is kept once a SYN with ACK passed: with it the connection begins whose own SYN was out; for
+-- a SYN given up it is late (RFC 9293, section 3.5, and own)
 abbrev pub joined : Kept → (own peer : ℕ) → Kept
-joined g own peer = if is_the_number g.opening own then connection_begun g own peer else g
+joined g own peer =
+    if is_the_number g.opening own then connection_begun g own peer
+    else (if is_the_number g.given_up own
+    then record g { late = Some (record { own = own; peer = peer }) }
+    else answered_anew g own peer)
 
 -- what is kept once a segment passed: a SYN without ACK may be a replay, and changes nothing (own)
 abbrev pub admitted : Kept → Segment → Kept
 admitted g d = if has SYN d && has ACK d then joined g (answered_isn d) d.sequence else g
 
--- the greatest number moves, but by a SYN without ACK: it isn't of the connection in use (own)
+-- the segment is of the connection in use: a SYN with ACK has its two numbers (own)
+abbrev pub is_of_connection : Kept → Segment → Bool
+is_of_connection g d =
+    if has SYN d then has ACK d && are_isns g.isns (answered_isn d) d.sequence else true
+
+-- the greatest number moves by what is of the connection in use (own)
 abbrev pub past_heard : Kept → Segment → ℕ → Kept
 past_heard g d n =
-    if is_opening_syn d then g else record g { heard = max g.heard (n + segment_length d) }
+    if is_of_connection g d then record g {
+      heard = max g.heard (n + segment_length d);
+      settled = g.settled || not (has SYN d);
+    } else g
 
--- a segment that passed may be a replay: a SYN where a connection is in use or opening, and what
--- ends before what was heard (own)
+-- a segment that passed may be a replay: a SYN where a connection is in use or opening, a SYN with
+-- ACK of another one, and what ends before what was heard (own)
 abbrev pub may_be_replayed : Kept → Segment → (number : ℕ) → Bool
 may_be_replayed g d n =
     if is_opening_syn d then is_some g.isns || is_some g.opening
-    else nat_lt (n + segment_length d) (admitted g d).heard
+    else not (is_of_connection (admitted g d) d)
+    || nat_lt (n + segment_length d) (admitted g d).heard
 
 -- the RNextKeyID that is followed of a segment that passed: that of a RST isn't, nor that of what
 -- may be a replay (RFC 5925, section 7.5; what isn't: own)
@@ -99,6 +122,7 @@ handed_on here pair g d p = record {
 -- refusals that holds (RFC 5925, section 7.5, and own)
 unfoldable pub take_in : Setting → Pair → Kept → Segment → Result Opened Untaken
 take_in here pair g d = do
+  keyed ← demand (is_keyed here.rows pair) Unkeyed
   right ← demand (good d) Checksum
   p ← as_taken (judged_arrival here pair g d)
   Ok (handed_on here pair g d p)

@@ -2,9 +2,11 @@
 -- top.
 use Rattle.std.specs.Prelude.{ℕ, ◌+◌, ◌-◌, ◌%◌, ◌==◌, Bool, true, false, not, ◌&&◌, List}
 use Rattle.std.specs.Prelude.{Option, Some, None, option_map, Result, Ok, Err}
+use Rattle.std.specs.List.{list_any}
+use Rattle.book_base.specs.declared.address.Pair.{Pair}
 use Rattle.book_segments.specs.Bytes.{ring}
 use Rattle.book_segments.specs.Segments.{Segment, has, SYN, ACK}
-use Rattle.book_keys.specs.Rows.{Row}
+use Rattle.book_keys.specs.Rows.{Row, matches}
 use Rattle.book_shim.specs.declared.kept.Isns.{Isns}
 use Rattle.book_shim.specs.declared.kept.Kept.{Kept}
 
@@ -19,7 +21,10 @@ pub record Setting : Type 0 where
 abbrev pub fresh : Kept
 fresh = record {
   opening = None;
+  given_up = None;
+  late = None;
   isns = None;
+  settled = false;
   sent = 0;
   heard = 0;
   current = None;
@@ -56,11 +61,18 @@ answered_isn d = (d.acknowledgement + ring - 1) % ring
 abbrev pub connection_begun : Kept → (own peer : ℕ) → Kept
 connection_begun g own peer = record {
   opening = None;
+  given_up = None;
+  late = None;
   isns = Some (record { own = own; peer = peer });
+  settled = false;
   sent = own + 1;
   heard = peer + 1;
   current = g.current;
 }
+
+-- some row is for the pair, at whatever time (RFC 5925, section 7.4)
+abbrev pub is_keyed : List Row → Pair → Bool
+is_keyed rows pair = list_any (λ r. matches r pair) rows
 
 -- what is asked holds, or this is the refusal (own)
 abbrev pub demand : {E : Type 0} → Bool → E → Result (Unit {0}) E

@@ -1,8 +1,8 @@
 -- What becomes of a datagram of the own kernel (RFC 5925, section 7.4). The file's tops:
 -- `send_sealed` and `outbound`.
-use Rattle.std.specs.Prelude.{ℕ, ◌+◌, ◌-◌, ◌==◌, nat_le, Bool, not, ◌&&◌, ◌||◌, max}
+use Rattle.std.specs.Prelude.{ℕ, ◌+◌, ◌-◌, ◌%◌, ◌==◌, nat_le, Bool, false, not, ◌&&◌, ◌||◌, max}
 use Rattle.std.specs.Prelude.{if◌then◌else◌, List, ◌∷◌, ◌++◌, length, replicate}
-use Rattle.std.specs.Prelude.{Some, None, Result, Ok, Err}
+use Rattle.std.specs.Prelude.{Option, Some, None, Result, Ok, Err}
 use Rattle.std.specs.List.{list_any}
 use Rattle.book_base.specs.declared.address.Pair.{Pair}
 use Rattle.book_base.specs.Algorithms.{mac_length_of}
@@ -10,7 +10,8 @@ use Rattle.book_base.specs.Results.{◌>>=◌, or_fault}
 use Rattle.book_segments.specs.Options.{Plain, Ao, ao_kind, ao_head_length, md5_kind}
 use Rattle.book_segments.specs.Options.{plains, listed, options_of}
 use Rattle.book_segments.specs.Segments.{Segment, Reading, Bad as Unread, Read, reading, has}
-use Rattle.book_segments.specs.Segments.{SYN, ACK, segment_length}
+use Rattle.book_segments.specs.Segments.{SYN, ACK, RST, segment_length}
+use Rattle.book_segments.specs.Bytes.{ring}
 use Rattle.book_segments.specs.Sockets.{same_socket}
 use Rattle.book_macs.specs.Contexts.{context_of}
 use Rattle.book_macs.specs.MacInput.{mac_input}
@@ -20,11 +21,13 @@ use Rattle.book_endpoint.specs.States.{number_limit}
 use Rattle.book_endpoint.specs.Verdicts.{segment_number}
 use Rattle.book_endpoint.specs.Emissions.{ao_length}
 use Rattle.book_shim.specs.declared.refusal.Unsent.{Unsent}
-use Rattle.book_shim.specs.declared.refusal.Unsent.TheVariants.{Bad, Foreign, Signed, NoContext}
-use Rattle.book_shim.specs.declared.refusal.Unsent.TheVariants.{Range, NoKey, NoRoom, TooLong}
+use Rattle.book_shim.specs.declared.refusal.Unsent.TheVariants.{Bad, Foreign, Unkeyed, Signed}
+use Rattle.book_shim.specs.declared.refusal.Unsent.TheVariants.{NoContext, Range, NoKey, NoRoom}
+use Rattle.book_shim.specs.declared.refusal.Unsent.TheVariants.{TooLong}
+use Rattle.book_shim.specs.declared.kept.Isns.{Isns}
 use Rattle.book_shim.specs.declared.kept.Kept.{Kept}
 use Rattle.book_shim.specs.Keeping.{own_isn, peer_isn, is_the_number, are_isns, is_opening_syn}
-use Rattle.book_shim.specs.Keeping.{answered_isn, connection_begun, demand, Setting}
+use Rattle.book_shim.specs.Keeping.{answered_isn, connection_begun, demand, is_keyed, Setting}
 use Rattle.book_shim.specs.Relaying.{fitted, relaid, length_in_header}
 
 -- what was sent in place of a datagram of the own kernel, and what is kept then (own)
@@ -46,7 +49,7 @@ signs o = (o.kind == ao_kind) || (o.kind == md5_kind)
 abbrev pub opening : Kept → ℕ → Kept
 opening g own =
     if is_the_number (own_isn g) own || is_the_number g.opening own then g
-    else record g { opening = Some own; current = None }
+    else record g { opening = Some own; given_up = g.opening; current = None }
 
 -- what is kept once the own kernel answers a SYN: with it a connection begins, unless it is that of
 -- the connection in use, again. What the kernel answers had passed (RFC 9293, section 3.5, and own)
@@ -60,10 +63,30 @@ entered g d =
     then (if has ACK d then accepting g d.sequence (answered_isn d) else opening g d.sequence)
     else g
 
--- the greatest number moves, but by a SYN without ACK: it isn't of the connection in use (own)
+-- the RST by which the own kernel answers a SYN with ACK that answered a SYN given up (RFC 9293,
+-- section 3.10.7.3)
+abbrev pub resets : Option Isns → Segment → Bool
+resets None d = false
+resets (Some c) d = has RST d && (not (has SYN d) && (d.sequence == (c.own + 1) % ring))
+
+-- as if the connection that is reset were in use, where one is (own)
+abbrev pub as_late : Kept → Option Isns → Kept
+as_late g None = g
+as_late g (Some c) = connection_begun g c.own c.peer
+
+-- by what a segment of the own kernel is sealed (RFC 5925, section 5.2, and own)
+abbrev pub kept_for : Kept → Segment → Kept
+kept_for g d = if resets g.late d then as_late g g.late else g
+
+-- the greatest number moves, but by a SYN without ACK: it isn't of the connection in use; nor is
+-- what resets a late one, of which nothing is kept then (own)
 abbrev pub past_sent : Kept → Segment → ℕ → Kept
 past_sent g d n =
-    if is_opening_syn d then g else record g { sent = max g.sent (n + segment_length d) }
+    if is_opening_syn d then g
+    else (if resets g.late d then record g { late = None } else record g {
+      sent = max g.sent (n + segment_length d);
+      settled = g.settled || not (has SYN d);
+    })
 
 -- the bytes of a TCP-AO option (RFC 5925, section 2.2)
 abbrev pub ao_bytes : Sending → List ℕ → List ℕ
@@ -123,9 +146,10 @@ sealed_with g d area u =
 -- these refusals that holds (RFC 5925, section 7.4, and own)
 unfoldable pub send_within : Setting → Pair → Kept → Segment → Result Sealed Unsent
 send_within here pair e d = do
+  keyed ← demand (is_keyed here.rows pair) Unkeyed
   plain ← demand (not (list_any signs (plains (listed (options_of d.area))))) Signed
-  context ← or_fault (context_of d (own_isn e) (peer_isn e)) NoContext
-  n ← or_fault (segment_number d (Some e.sent)) Range
+  context ← or_fault (context_of d (own_isn (kept_for e d)) (peer_isn (kept_for e d))) NoContext
+  n ← or_fault (segment_number d (Some (kept_for e d).sent)) Range
   ends ← demand (nat_le (n + segment_length d) number_limit) Range
   s ← or_fault (choose e.current here.rows pair here.now) NoKey
   area ← or_fault (fitted (40 - ao_length s) d.area) NoRoom

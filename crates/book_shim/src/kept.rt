@@ -12,8 +12,14 @@ pub struct Isns {
 pub struct Kept {
     /// The initial sequence number of the own SYN that is out.
     pub opening: Option<u32>,
+    /// That of the own SYN before it, which was given up.
+    pub given_up: Option<u32>,
+    /// Those of a SYN with ACK that answered the SYN given up: the own kernel will answer it by a RST.
+    pub late: Option<Isns>,
     /// Those of the connection in use.
     pub isns: Option<Isns>,
+    /// A segment without SYN was sent or heard in the connection in use.
+    pub settled: bool,
     /// The number after the greatest that was sent in the connection.
     pub sent: u64,
     /// The number after the greatest that was heard in the connection.

@@ -1,5 +1,5 @@
 -- The segments of RFC 9235, section 4.1, as they go out of one guard and come in at the other, computed from the definitions.
-use Rattle.std.proofs.Common.{◌≡◌, ℕ, true, List, [], ◌∷◌, replicate, Some, None, Result, Ok, Err, ◌+◌, refl}
+use Rattle.std.proofs.Common.{◌≡◌, ℕ, true, false, List, [], ◌∷◌, replicate, Some, None, Result, Ok, Err, ◌+◌, refl}
 use Rattle.sha1.specs.Sha1.{sha1, digest_bytes, hash_after, compress, rounds, schedule, first_words}
 use Rattle.book_base.specs.declared.address.Address.TheVariants.{V4}
 use Rattle.book_base.specs.declared.address.Pair.{Pair}
@@ -20,7 +20,7 @@ use Rattle.book_endpoint.specs.Verdicts.{judge}
 use Rattle.book_endpoint.specs.declared.verdict.Verdict.TheVariants.{NoAo}
 use Rattle.book_shim.specs.declared.kept.Kept.{Kept}
 use Rattle.book_shim.specs.declared.refusal.Unsent.{Unsent}
-use Rattle.book_shim.specs.declared.refusal.Unsent.TheVariants.{NoContext}
+use Rattle.book_shim.specs.declared.refusal.Unsent.TheVariants.{Unkeyed, NoContext}
 use Rattle.book_shim.specs.declared.refusal.Untaken.{Untaken}
 use Rattle.book_shim.specs.declared.refusal.Untaken.TheVariants.{Refused}
 use Rattle.book_shim.specs.Keeping.{Setting, fresh}
@@ -88,19 +88,23 @@ server_isn = 297878113
 
 -- the client once its SYN is out
 abbrev pub client_opening : Kept
-client_opening = record { opening = Some client_isn; isns = None; sent = 0; heard = 0; current = Some 1 }
+client_opening = record { opening = Some client_isn; given_up = None; late = None; isns = None; settled = false; sent = 0; heard = 0; current = Some 1 }
 
 -- the server once the SYN passed, which asks for a key
 abbrev pub server_asked : Kept
-server_asked = record { opening = None; isns = None; sent = 0; heard = 0; current = Some 1 }
+server_asked = record { opening = None; given_up = None; late = None; isns = None; settled = false; sent = 0; heard = 0; current = Some 1 }
 
 -- the server once its SYN with ACK is out
 abbrev pub server_joined : Kept
-server_joined = record { opening = None; isns = Some (record { own = server_isn; peer = client_isn }); sent = server_isn + 1; heard = client_isn + 1; current = Some 1 }
+server_joined = record { opening = None; given_up = None; late = None; isns = Some (record { own = server_isn; peer = client_isn }); settled = false; sent = server_isn + 1; heard = client_isn + 1; current = Some 1 }
 
 -- the client once it heard it
 abbrev pub client_joined : Kept
-client_joined = record { opening = None; isns = Some (record { own = client_isn; peer = server_isn }); sent = client_isn + 1; heard = server_isn + 1; current = Some 1 }
+client_joined = record { opening = None; given_up = None; late = None; isns = Some (record { own = client_isn; peer = server_isn }); settled = false; sent = client_isn + 1; heard = server_isn + 1; current = Some 1 }
+
+-- the client once another SYN is out, the first being given up
+abbrev pub client_gave_up : Kept
+client_gave_up = record client_opening { opening = Some 7; given_up = Some client_isn; current = None }
 
 -- RFC 9235, section 4.1, the TCP checksum set right
 abbrev pub sealed_syn : List ℕ
@@ -178,13 +182,19 @@ pub syn_ack_opened : taken_as (inbound (under rows_at_client) at_client client_o
 unfolding sha1 digest_bytes hash_after compress rounds schedule first_words put2 put4 meant options_of find_ao sums complement_of pseudo header tcp_bytes checksum_of good spell first_fault fields reading block_key hmac context context_of mac_input traffic_key mac choose follow judge rewritten fitted_from relaid send_within judged_arrival take_in
 syn_ack_opened = refl
 
+-- where it comes late it is taken, and the SYN that is out stays out
+pub late_syn_ack_opened : taken_as (inbound (under rows_at_client) at_client client_gave_up sealed_syn_ack)
+    ≡ Ok (record { kept = record client_gave_up { late = Some (record { own = client_isn; peer = server_isn }) }; bytes = taken_syn_ack })
+unfolding sha1 digest_bytes hash_after compress rounds schedule first_words put2 put4 meant options_of find_ao sums complement_of pseudo header tcp_bytes checksum_of good spell first_fault fields reading block_key hmac context context_of mac_input traffic_key mac choose follow judge rewritten fitted_from relaid send_within judged_arrival take_in
+late_syn_ack_opened = refl
+
 -- the client's text goes out as 4.1.3
-pub text_sealed : sent_as (outbound (under rows_at_client) at_client client_joined plain_text) ≡ Ok (record { kept = record client_joined { sent = client_isn + 68 }; bytes = sealed_text })
+pub text_sealed : sent_as (outbound (under rows_at_client) at_client client_joined plain_text) ≡ Ok (record { kept = record client_joined { settled = true; sent = client_isn + 68 }; bytes = sealed_text })
 unfolding sha1 digest_bytes hash_after compress rounds schedule first_words put2 put4 meant options_of find_ao sums complement_of pseudo header tcp_bytes checksum_of good spell first_fault fields reading block_key hmac context context_of mac_input traffic_key mac choose follow judge rewritten fitted_from relaid send_within judged_arrival take_in
 text_sealed = refl
 
 -- it comes in at the server
-pub text_opened : taken_as (inbound (under rows_at_server) at_server server_joined sealed_text) ≡ Ok (record { kept = record server_joined { heard = client_isn + 68 }; bytes = taken_text })
+pub text_opened : taken_as (inbound (under rows_at_server) at_server server_joined sealed_text) ≡ Ok (record { kept = record server_joined { settled = true; heard = client_isn + 68 }; bytes = taken_text })
 unfolding sha1 digest_bytes hash_after compress rounds schedule first_words put2 put4 meant options_of find_ao sums complement_of pseudo header tcp_bytes checksum_of good spell first_fault fields reading block_key hmac context context_of mac_input traffic_key mac choose follow judge rewritten fitted_from relaid send_within judged_arrival take_in
 text_opened = refl
 
@@ -192,6 +202,11 @@ text_opened = refl
 pub no_context : sent_as (outbound (under rows_at_client) at_client fresh plain_text) ≡ Err NoContext
 unfolding sha1 digest_bytes hash_after compress rounds schedule first_words put2 put4 meant options_of find_ao sums complement_of pseudo header tcp_bytes checksum_of good spell first_fault fields reading block_key hmac context context_of mac_input traffic_key mac choose follow judge rewritten fitted_from relaid send_within judged_arrival take_in
 no_context = refl
+
+-- where no row is for the pair, none goes out
+pub no_row : sent_as (outbound (under []) at_client client_joined plain_text) ≡ Err Unkeyed
+unfolding sha1 digest_bytes hash_after compress rounds schedule first_words put2 put4 meant options_of find_ao sums complement_of pseudo header tcp_bytes checksum_of good spell first_fault fields reading block_key hmac context context_of mac_input traffic_key mac choose follow judge rewritten fitted_from relaid send_within judged_arrival take_in
+no_row = refl
 
 -- a segment without TCP-AO isn't taken
 pub no_option : taken_as (inbound (under rows_at_server) at_server server_joined plain_text) ≡ Err (Refused NoAo)

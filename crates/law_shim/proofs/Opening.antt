@@ -1,6 +1,7 @@
 -- What was sealed is opened by the other guard.
-use Rattle.std.proofs.Common.{◌≡◌, ℕ, ◌+◌, ◌-◌, ◌*◌, ◌/◌, ◌%◌, ◌^◌, ◌<◌, ◌≤◌, ◌==◌, ◌&&◌, not, Bool, true, false, nat_lt, nat_le, List, [], ◌∷◌, ◌++◌, length, take, drop, replicate, Some, None, Ok, Err, refl, sym, ap, ◌∙◌, arith, length-append, append_assoc, if◌then◌else◌, inl, inr, ◌⊎◌}
+use Rattle.std.proofs.Common.{◌≡◌, ℕ, ◌+◌, ◌-◌, ◌*◌, ◌/◌, ◌%◌, ◌^◌, ◌<◌, ◌≤◌, ◌==◌, ◌&&◌, ◌||◌, not, Bool, true, false, nat_lt, nat_le, List, [], ◌∷◌, ◌++◌, length, take, drop, replicate, Some, None, Ok, Err, refl, sym, ap, ◌∙◌, arith, length-append, append_assoc, if◌then◌else◌, inl, inr, ◌⊎◌}
 use Rattle.std.specs.Prelude.{is_some}
+use Rattle.std.specs.Option.{option_or}
 use Rattle.std.proofs.lemmas.List.{append-nil}
 use Rattle.std.proofs.lemmas.Bool.Decides.{nat_tests}
 use Rattle.book_base.specs.declared.address.Pair.{Pair}
@@ -17,25 +18,27 @@ use Rattle.book_segments.proofs.SocketLaws.{same_bytes-refl}
 use Rattle.book_segments.proofs.SumLaws.{finished_good, complement_fits, complement_completes, is_right}
 use Rattle.book_macs.specs.Contexts.{context_of}
 use Rattle.book_macs.specs.MacInput.{covered, mac_input}
-use Rattle.book_keys.specs.Rows.{Row}
-use Rattle.book_keys.specs.Choices.{Numbered, accept_row}
+use Rattle.book_keys.specs.Lifetimes.{contains}
+use Rattle.book_keys.specs.Rows.{Row, matches, receives}
+use Rattle.book_keys.specs.Choices.{Numbered, accept_row, acceptable_as, lowest}
 use Rattle.book_keys.specs.Coordination.{Sending}
 use Rattle.book_endpoint.specs.declared.verdict.Verdict.TheVariants.{MacLength, Range, NoContext}
 use Rattle.book_endpoint.specs.States.{number_limit}
 use Rattle.book_endpoint.specs.Verdicts.{Finding, Judgement, Known, judge, found_with, mac_of, segment_number}
 use Rattle.book_endpoint.proofs.JudgeSteps.{judge_mac, judge_number, judge_context, judge_row, judge_ao, judge_by_steps}
+use Rattle.book_shim.specs.Keeping.{is_keyed}
 use Rattle.book_shim.specs.Relaying.{relaid, with_area, summed, length_in_header}
 use Rattle.book_shim.specs.Leaving.{ao_bytes, ao_last}
 use Rattle.law_shim.proofs.Sealing.{Keeps, relaid_keeps}
 
 -- ---- checksums are right
 
-header_sum : (a b t i x l c : ℕ) (rest : List ℕ) → c < 65536
+pub header_sum : (a b t i x l c : ℕ) (rest : List ℕ) → c < 65536
     → words_sum (a ∷ b ∷ put2 t (put2 i (x ∷ 0 ∷ l ∷ 6 ∷ put2 c rest))) ≡ words_sum (a ∷ b ∷ put2 t (put2 i (x ∷ 0 ∷ l ∷ 6 ∷ put2 0 rest))) + c
 unfolding put2
 header_sum a b t i x l c rest h = omega arith
 
-header_some : (a b : ℕ) (rest : List ℕ) → 0 < a → 0 < words_sum (a ∷ b ∷ rest)
+pub header_some : (a b : ℕ) (rest : List ℕ) → 0 < a → 0 < words_sum (a ∷ b ∷ rest)
 header_some a b rest h = omega arith
 
 -- the header sums with its checksum
@@ -206,6 +209,16 @@ late_test n h = grind (arith, nat_tests)
 
 mac_right : (ao : Ao) (p : Finding) → ao.mac ≡ mac_of p → judge_mac ao p ≡ Ok p
 mac_right ao p e = let t : same_bytes ao.mac (mac_of p) ≡ true = ap (λ (l : List ℕ). same_bytes ao.mac l) (sym e) ∙ same_bytes-refl ao.mac in rw t refl
+
+-- a row that accepts for the pair is for it
+pub accepted_keyed : (rows : List Row) (pair : Pair) (id now n : ℕ) (r : Numbered) → lowest (acceptable_as pair id now) n rows ≡ Some r → is_keyed rows pair ≡ true
+accepted_keyed [] pair id now n r e = absurd (cc)
+accepted_keyed (x ∷ xs) pair id now n r e = by_match (matches x pair) (receives x.direction && contains x.accepting now) (x.recv_id == id) (accepted_keyed xs pair id now (n + 1) r) e
+  where
+    by_match : (m a i : Bool) → (lowest (acceptable_as pair id now) (n + 1) xs ≡ Some r → is_keyed xs pair ≡ true)
+        → option_or (if (m && a) && i then Some (record { number = n; row = x }) else None) (lowest (acceptable_as pair id now) (n + 1) xs) ≡ Some r → (m || is_keyed xs pair) ≡ true
+    by_match true a i later e = refl
+    by_match false a i later e = later e
 
 pub passes_through : (rows : List Row) (pair : Pair) (k : Known) (now : ℕ) (d : Segment) (ao : Ao) (r : Numbered) (c : List ℕ) (n : ℕ)
     → find_ao d.area ≡ One ao → accept_row rows pair ao.key_id now ≡ Some r → length ao.mac ≡ mac_length_of r.row.algorithm → context_of d k.peer_isn (Some k.own_isn) ≡ Some c

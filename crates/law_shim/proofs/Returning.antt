@@ -24,16 +24,16 @@ use Rattle.book_endpoint.specs.Verdicts.{Finding, Judgement, judge, found_with, 
 use Rattle.book_endpoint.specs.Emissions.{ao_length}
 use Rattle.book_endpoint.specs.Arrivals.{from_peer}
 use Rattle.book_shim.specs.declared.kept.Kept.{Kept}
-use Rattle.book_shim.specs.declared.refusal.Untaken.TheVariants.{Checksum}
-use Rattle.book_shim.specs.Keeping.{Setting, demand}
+use Rattle.book_shim.specs.declared.refusal.Untaken.TheVariants.{Unkeyed, Checksum}
+use Rattle.book_shim.specs.Keeping.{Setting, demand, is_keyed}
 use Rattle.book_shim.specs.Relaying.{spelled, going, coming, written_by, in_words, rewritten, fitted, relaid, with_area, length_in_header, coming_area, most_mss}
 use Rattle.book_shim.specs.declared.trim.Trim.{Trim}
-use Rattle.book_shim.specs.Leaving.{Sealed, entered, signs, send_sealed, with_ao, ao_bytes, ao_last, no_code, input_for, code_for}
+use Rattle.book_shim.specs.Leaving.{Sealed, entered, kept_for, signs, send_sealed, with_ao, ao_bytes, ao_last, no_code, input_for, code_for}
 use Rattle.book_shim.specs.Arriving.{Opened, as_taken, judged_arrival, is_awaited, known_for, handed_on, take_in, take_read}
 use Rattle.law_shim.specs.Origins.{AgreesWith, IsMet, ComesOut}
 use Rattle.law_shim.proofs.Areas.{IsOpenPlain, IsNot, written_listed, plains_placed, written_append, unsigned, ao_plain, front, front_written, whole_written, whole_open, front_open, front_not, listed_plain, ao_found}
 use Rattle.law_shim.proofs.Sealing.{fitted_words, sends, IsFitted, is_fitted, Keeps, relaid_keeps, no_code_long}
-use Rattle.law_shim.proofs.Opening.{relaid_good, covered_same, same_input, remainder_of, meant_near, passes_through}
+use Rattle.law_shim.proofs.Opening.{relaid_good, covered_same, same_input, remainder_of, meant_near, accepted_keyed, passes_through}
 
 rewritten_is : (k : Trim) (area : List ℕ)
     → rewritten (going k) area ≡ written_by (going k) (plains (listed (options_of area))) ++ replicate ((4 - length (written_by (going k) (plains (listed (options_of area)))) % 4) % 4) 1
@@ -89,13 +89,14 @@ is_judged : (here : Setting) (pair : Pair) (g : Kept) (d : Segment) (p : Finding
 unfolding judged_arrival
 is_judged here pair g d p e h = judged_so (has SYN d && has ACK d && not (is_awaited g d)) (judge here.rows pair (known_for g d) here.now d) p e h
 
-taken_so : (b : Bool) (j : Judgement) (p : Finding) (f : Finding → Opened) → b ≡ true → j ≡ Ok p
-    → (demand b Checksum >>= λ right. as_taken j >>= λ q. Ok (f q)) ≡ Ok (f p)
-taken_so b j p f e h = rw (e, h) refl
+taken_so : (k b : Bool) (j : Judgement) (p : Finding) (f : Finding → Opened) → k ≡ true → b ≡ true → j ≡ Ok p
+    → (demand k Unkeyed >>= λ keyed. demand b Checksum >>= λ right. as_taken j >>= λ q. Ok (f q)) ≡ Ok (f p)
+taken_so k b j p f i e h = rw (i, e, h) refl
 
-is_taken : (here : Setting) (pair : Pair) (g : Kept) (d : Segment) (p : Finding) → good d ≡ true → judged_arrival here pair g d ≡ Ok p → take_in here pair g d ≡ Ok (handed_on here pair g d p)
+is_taken : (here : Setting) (pair : Pair) (g : Kept) (d : Segment) (p : Finding) → is_keyed here.rows pair ≡ true → good d ≡ true → judged_arrival here pair g d ≡ Ok p
+    → take_in here pair g d ≡ Ok (handed_on here pair g d p)
 unfolding take_in
-is_taken here pair g d p e h = taken_so (good d) (judged_arrival here pair g d) p (λ q. handed_on here pair g d q) e h
+is_taken here pair g d p k e h = taken_so (is_keyed here.rows pair) (good d) (judged_arrival here pair g d) p (λ q. handed_on here pair g d q) k e h
 
 -- the MAC is right
 code_right : (r : Row) (s : Sending) (context : List ℕ) (one two : List ℕ) → r.algorithm ≡ s.row.algorithm → r.master ≡ s.row.master → one ≡ two
@@ -225,7 +226,7 @@ comes_out sending here pair_there pair there g d m f h met =
     let verdict : judge here.rows pair (known_for g e) here.now e ≡ Ok p =
     passes_through here.rows pair (known_for g e) here.now e ao met.row m.context m.number (ap find_ao k.area_is ∙ fitted_found d area s code f z.plain fit) met.accepted
     (code_long ∙ ap mac_length_of (sym met.algorithm)) met.context (heard_by (has SYN e) (known_for g e).expected (λ no_syn. let r = met.near no_syn in (r.0, r.1)))
-    (number_by (has SYN e) d e (entered there d).sent m.number (known_for g e).expected syn refl k.sequence f.sequence z.number_is met.near)
+    (number_by (has SYN e) d e (kept_for (entered there d) d).sent m.number (known_for g e).expected syn refl k.sequence f.sequence z.number_is met.near)
     (subst (λ (n : ℕ). m.number + n ≤ number_limit) (sym sizes) z.ends)
     (code_right met.row.row s m.context input (mac_input m.number e ao met.row.row.with_options) met.algorithm met.master inputs) in
     let whole : length_in_header d.ip (with_area d a) ≤ 65535 =
@@ -237,7 +238,7 @@ comes_out sending here pair_there pair there g d m f h met =
     record {
       taken = handed_on here pair g e p;
       takes = λ bytes read from. is_inbound here pair g e (handed_on here pair g e p) (from_peer pair e) (reading bytes) refl from read
-          (is_taken here pair g e p right (is_judged here pair g e p met.awaited verdict));
+          (is_taken here pair g e p (accepted_keyed here.rows pair s.key_id here.now 1 met.row met.accepted) right (is_judged here pair g e p met.awaited verdict));
       agrees = subst G (sym given) (record {
         source = sym k.source ∙ sym l.source;
         destination = sym k.destination ∙ sym l.destination;

@@ -1,11 +1,11 @@
 -- What is handed to a kernel was given by the other one.
-use Rattle.std.specs.Prelude.{slice_index_or, ◌-◌, ◌/◌, ◌%◌, ◌==◌}
+use Rattle.std.specs.Prelude.{slice_index_or, ◌-◌}
 use Rattle.std.proofs.Common.{◌≡◌, ℕ, ◌&&◌, ◌||◌, Bool, true, false, List, [], ◌∷◌, ◌++◌, Option, Result, Ok, Err, refl, sym, ap, subst, ◌∙◌, inl, inr, ◌⊎◌, if◌then◌else◌}
 use Rattle.book_base.specs.declared.address.Pair.{Pair}
 use Rattle.book_segments.specs.Bytes.{same_bytes}
 use Rattle.book_segments.specs.Options.{Ao, One, Opt, find_ao, found, of_kind, listed, options_of}
 use Rattle.book_segments.specs.Sockets.{same_socket}
-use Rattle.book_segments.specs.Segments.{Segment, Reading, Bad as Unread, Read, reading, has, SYN}
+use Rattle.book_segments.specs.Segments.{Segment, Reading, Bad as Unread, Read, reading}
 use Rattle.book_segments.specs.Spelling.{AreBytes, Fits}
 use Rattle.book_segments.proofs.Fields.{and_tells, same_bytes_tells}
 use Rattle.book_segments.proofs.SocketLaws.{same_socket_is}
@@ -35,12 +35,12 @@ use Rattle.law_shim.proofs.Sealing.{same_most, is_fitted, IsSealed, sends, Keeps
 -- ---- one step
 
 -- what was sent in place of what was read
-record WasSent (here : Setting) (pair : Pair) (g : Kept) (r : Reading) (m : Sealed) : Type 0 where
-  given : Segment
-  read : r ≡ Read given
-  source : given.source ≡ pair.local
-  destination : given.destination ≡ pair.remote
-  sealed_so : IsSealed here pair g given m
+pub record WasSent (here : Setting) (pair : Pair) (g : Kept) (r : Reading) (m : Sealed) : Type 0 where
+  pub given : Segment
+  pub read : r ≡ Read given
+  pub source : given.source ≡ pair.local
+  pub destination : given.destination ≡ pair.remote
+  pub sealed_so : IsSealed here pair g given m
 
 sockets : (b : Bool) (here : Setting) (pair : Pair) (g : Kept) (d : Segment) (m : Sealed) → b ≡ (same_socket d.source pair.local && same_socket d.destination pair.remote)
     → (if b then send_sealed here pair g d else Err Foreign) ≡ Ok m → WasSent here pair g (Read d) m
@@ -49,17 +49,17 @@ sockets true here pair g d m is e =
     record { given = d; read = refl; source = same_socket_is d.source pair.local two.0; destination = same_socket_is d.destination pair.remote two.1; sealed_so = sends here pair g d m e }
 sockets false here pair g d m is e = absurd (cc)
 
-was_sent : (here : Setting) (pair : Pair) (g : Kept) (r : Reading) (m : Sealed) → send_read here pair g r ≡ Ok m → WasSent here pair g r m
+pub was_sent : (here : Setting) (pair : Pair) (g : Kept) (r : Reading) (m : Sealed) → send_read here pair g r ≡ Ok m → WasSent here pair g r m
 was_sent here pair g (Unread fault) m e = absurd (cc)
 was_sent here pair g (Read d) m e = sockets (same_socket d.source pair.local && same_socket d.destination pair.remote) here pair g d m refl e
 
 -- what was taken in place of what was read
-record WasTaken (here : Setting) (pair : Pair) (g : Kept) (r : Reading) (t : Opened) : Type 0 where
-  segment : Segment
-  read : r ≡ Read segment
-  source : segment.source ≡ pair.remote
-  destination : segment.destination ≡ pair.local
-  opened_so : IsOpened here pair g segment t
+pub record WasTaken (here : Setting) (pair : Pair) (g : Kept) (r : Reading) (t : Opened) : Type 0 where
+  pub segment : Segment
+  pub read : r ≡ Read segment
+  pub source : segment.source ≡ pair.remote
+  pub destination : segment.destination ≡ pair.local
+  pub opened_so : IsOpened here pair g segment t
 
 peers : (b : Bool) (here : Setting) (pair : Pair) (g : Kept) (d : Segment) (t : Opened) → b ≡ from_peer pair d
     → (if b then take_in here pair g d else Err Strange) ≡ Ok t → WasTaken here pair g (Read d) t
@@ -68,11 +68,11 @@ peers true here pair g d t is e =
     record { segment = d; read = refl; source = same_socket_is d.source pair.remote two.0; destination = same_socket_is d.destination pair.local two.1; opened_so = takes here pair g d t e }
 peers false here pair g d t is e = absurd (cc)
 
-was_taken : (here : Setting) (pair : Pair) (g : Kept) (r : Reading) (t : Opened) → take_read here pair g r ≡ Ok t → WasTaken here pair g r t
+pub was_taken : (here : Setting) (pair : Pair) (g : Kept) (r : Reading) (t : Opened) → take_read here pair g r ≡ Ok t → WasTaken here pair g r t
 was_taken here pair g (Unread fault) t e = absurd (cc)
 was_taken here pair g (Read d) t e = peers (from_peer pair d) here pair g d t refl e
 
-read_fits : (bytes : List ℕ) (d : Segment) → AreBytes bytes → reading bytes ≡ Read d → Fits d
+pub read_fits : (bytes : List ℕ) (d : Segment) → AreBytes bytes → reading bytes ≡ Read d → Fits d
 read_fits bytes d b e = (read_stands bytes d b e).1
 
 -- ---- what was sealed in a run
@@ -209,11 +209,11 @@ found_made pair events at p (m ∷ ms) h e = elim (or_tells (accounts_for at p m
   | inr later ↦ accounted_later pair events at p m ms (found_made pair events at p ms h.1 later)
 ]
 
-local_across : (pair : Pair) (at : Side) → (pair_at pair (other at)).local ≡ (pair_at pair at).remote
+pub local_across : (pair : Pair) (at : Side) → (pair_at pair (other at)).local ≡ (pair_at pair at).remote
 local_across pair Left = refl
 local_across pair Right = refl
 
-remote_across : (pair : Pair) (at : Side) → (pair_at pair (other at)).remote ≡ (pair_at pair at).local
+pub remote_across : (pair : Pair) (at : Side) → (pair_at pair (other at)).remote ≡ (pair_at pair at).local
 remote_across pair Left = refl
 remote_across pair Right = refl
 
@@ -232,13 +232,14 @@ carried given blank came out a b k h l = record {
 }
 
 -- the option of a segment that passes is found
-one_found : (d : Segment) {rows : List Row} {pair : Pair} {known : Known} {now : ℕ} {p : Finding} (h : Passes rows pair known now d p) → find_ao d.area ≡ One h.ao
+pub one_found : (d : Segment) {rows : List Row} {pair : Pair} {known : Known} {now : ℕ} {p : Finding} (h : Passes rows pair known now d p) → find_ao d.area ≡ One h.ao
 unfolding find_ao
 one_found d h = ap (λ (l : List Opt). found l (of_kind 19 (listed (options_of d.area)))) h.one_option ∙ ap (λ (l : List Opt). found (h.option ∷ []) l) h.no_md5 ∙ ap (λ (a : Ao). One a) (sym h.its_fields)
 
-pub authentic : (pair : Pair) (events : List Event) (at : Side) (here : Setting) (bytes : List ℕ) (t : Opened) → IsBytewise events → AreBytes bytes
-    → inbound here (pair_at pair at) (kept_at (run pair events) at) bytes ≡ Ok t → was_made at t.passed (run pair events).made ≡ true → IsOriginal pair events here at t
-authentic pair events at here bytes t all b e made =
+-- the MAC of what was given is over what the MAC of what passed is
+pub authentic_input : (pair : Pair) (events : List Event) (at : Side) (here : Setting) (bytes : List ℕ) (t : Opened) → IsBytewise events → AreBytes bytes
+    → inbound here (pair_at pair at) (kept_at (run pair events) at) bytes ≡ Ok t → was_made at t.passed (run pair events).made ≡ true → (o : IsOriginal pair events here at t) × (o.sent.input ≡ t.passed.input)
+authentic_input pair events at here bytes t all b e made =
     let P = pair_at pair at in
     let w = was_taken here P (kept_at (run pair events) at) (reading bytes) t e in
     let d = w.segment in
@@ -262,32 +263,37 @@ authentic pair events at here bytes t all b e made =
     let same = same_inputs m.sent.number p.number blank d (ao_last area sending (no_code sending)) passes.ao sending.row.with_options passes.row.row.with_options
     family (k.source ∙ source) (k.destination ∙ destination) (blank_sized given area sending s.fits (fitted_words _ given.area area z.fits) z.whole) (fits_sized d fd) input in
     let out_is : t.segment ≡ relaid d (coming_area (most_mss here.mtu d) d.area) = ap (λ (x : Opened). x.segment) w.opened_so.taken_is in
-    let agrees = carried given blank d (relaid d (coming_area (most_mss here.mtu d) d.area)) (area ++ ao_bytes sending (no_code sending)) (coming_area (most_mss here.mtu d) d.area) k same.agrees (relaid_keeps d (coming_area (most_mss here.mtu d) d.area)) in
-    record {
-      sent = m.sent;
-      made = found.sealed_there;
-      bytes = s.bytes;
-      given = subst (λ (x : Side). Gave x s.bytes events) found.maker s.gave;
-      read = s.read;
-      agrees = subst (λ (x : Segment). AgreesWith given x) (sym out_is) agrees;
-      context = found.context;
-      options = area;
-      fit = z.fits;
-      come = λ flag passing.
-          let passed_row : p.row ≡ passes.row.number = ap (λ (x : Finding). x.row) passes.finding in
-          let flag_there : passes.row.row.with_options ≡ true =
-          ap (λ (x : Row). x.with_options) (sym (passes.acceptable_row.here passes.row.row) ∙ ap (λ (i : ℕ). slice_index_or here.rows (i - 1) passes.row.row) (sym passed_row)) ∙ passing passes.row.row in
-          let most_is : most_mss here.mtu t.segment ≡ most_mss here.mtu d = ap (λ (x : Segment). most_mss here.mtu x) out_is ∙ same_most here.mtu d (coming_area (most_mss here.mtu d) d.area) in
-          let blank_code = no_code sending in
-          let covers_both : covered true (area ++ ao_bytes sending blank_code) (ao_last area sending blank_code) ≡ covered true d.area passes.ao =
-          ap (λ (l : List ℕ). covered true l (ao_last area sending blank_code)) (sym k.area_is)
-          ∙ ap (λ (b : Bool). covered b blank.area (ao_last area sending blank_code)) (sym flag) ∙ same.covers ∙ ap (λ (b : Bool). covered b d.area passes.ao) flag_there in
-          let os = fitted_options given area sending blank_code s.fits z.plain (is_fitted _ given.area area z.fits) (fitted_words _ given.area area z.fits) in
-          let found_blank = fitted_found given area sending blank_code s.fits z.plain (is_fitted _ given.area area z.fits) in
-          let listed_blank = front_listed given area sending blank_code s.fits z.plain (is_fitted _ given.area area z.fits) in
-          ap (λ (x : Segment). x.area) out_is ∙ (relaid_keeps d (coming_area (most_mss here.mtu d) d.area)).area_is
-          ∙ sym (comes_blank (most_mss here.mtu d) d.area passes.ao fd.listed (one_found d passes))
-          ∙ ap (λ (l : List ℕ). coming_area (most_mss here.mtu d) l) (sym covers_both)
-          ∙ comes_blank (most_mss here.mtu d) (area ++ ao_bytes sending blank_code) (ao_last area sending blank_code) listed_blank found_blank
-          ∙ os.come (most_mss here.mtu d) ∙ ap (λ (o : Option ℕ). coming_area o area) (sym most_is);
-    }
+    let agrees = carried given blank d (relaid d (coming_area (most_mss here.mtu d) d.area)) (area ++ ao_bytes sending (no_code sending)) (coming_area (most_mss here.mtu d) d.area) k same.agrees (relaid_keeps d (coming_area (most_mss here.mtu d) d.area)) in (
+      record {
+        sent = m.sent;
+        made = found.sealed_there;
+        bytes = s.bytes;
+        given = subst (λ (x : Side). Gave x s.bytes events) found.maker s.gave;
+        read = s.read;
+        agrees = subst (λ (x : Segment). AgreesWith given x) (sym out_is) agrees;
+        context = found.context;
+        options = area;
+        fit = z.fits;
+        come = λ flag passing.
+            let passed_row : p.row ≡ passes.row.number = ap (λ (x : Finding). x.row) passes.finding in
+            let flag_there : passes.row.row.with_options ≡ true =
+            ap (λ (x : Row). x.with_options) (sym (passes.acceptable_row.here passes.row.row) ∙ ap (λ (i : ℕ). slice_index_or here.rows (i - 1) passes.row.row) (sym passed_row)) ∙ passing passes.row.row in
+            let most_is : most_mss here.mtu t.segment ≡ most_mss here.mtu d = ap (λ (x : Segment). most_mss here.mtu x) out_is ∙ same_most here.mtu d (coming_area (most_mss here.mtu d) d.area) in
+            let blank_code = no_code sending in
+            let covers_both : covered true (area ++ ao_bytes sending blank_code) (ao_last area sending blank_code) ≡ covered true d.area passes.ao =
+            ap (λ (l : List ℕ). covered true l (ao_last area sending blank_code)) (sym k.area_is)
+            ∙ ap (λ (b : Bool). covered b blank.area (ao_last area sending blank_code)) (sym flag) ∙ same.covers ∙ ap (λ (b : Bool). covered b d.area passes.ao) flag_there in
+            let os = fitted_options given area sending blank_code s.fits z.plain (is_fitted _ given.area area z.fits) (fitted_words _ given.area area z.fits) in
+            let listed_blank = front_listed given area sending blank_code s.fits z.plain (is_fitted _ given.area area z.fits) in
+            ap (λ (x : Segment). x.area) out_is ∙ (relaid_keeps d (coming_area (most_mss here.mtu d) d.area)).area_is
+            ∙ sym (comes_blank (most_mss here.mtu d) d.area passes.ao fd.listed (one_found d passes))
+            ∙ ap (λ (l : List ℕ). coming_area (most_mss here.mtu d) l) (sym covers_both)
+            ∙ comes_blank (most_mss here.mtu d) (area ++ ao_bytes sending blank_code) (ao_last area sending blank_code) listed_blank (fitted_found given area sending blank_code s.fits z.plain (is_fitted _ given.area area z.fits))
+            ∙ os.come (most_mss here.mtu d) ∙ ap (λ (o : Option ℕ). coming_area o area) (sym most_is);
+      },
+      found.input,
+    )
+
+pub authentic : (pair : Pair) (events : List Event) (at : Side) (here : Setting) (bytes : List ℕ) (t : Opened) → IsBytewise events → AreBytes bytes
+    → inbound here (pair_at pair at) (kept_at (run pair events) at) bytes ≡ Ok t → was_made at t.passed (run pair events).made ≡ true → IsOriginal pair events here at t
+authentic pair events at here bytes t all b e made = (authentic_input pair events at here bytes t all b e made).0

@@ -14,7 +14,6 @@ use Rattle.book_macs.specs.Meaning.{SameFamily}
 use Rattle.book_macs.proofs.LengthLaws.{twelve_or_sixteen}
 use Rattle.book_segments.proofs.Fields.{le_is}
 use Rattle.book_macs.specs.Contexts.{context_of}
-use Rattle.book_keys.specs.Rows.{Row}
 use Rattle.book_keys.specs.Coordination.{Sending, choose}
 use Rattle.book_endpoint.specs.declared.verdict.Verdict.TheVariants.{NoContext as Nothing}
 use Rattle.book_endpoint.specs.States.{number_limit}
@@ -22,13 +21,13 @@ use Rattle.book_endpoint.specs.Verdicts.{Finding, Judgement, judge, segment_numb
 use Rattle.book_endpoint.specs.Emissions.{ao_length}
 use Rattle.book_shim.specs.declared.kept.Kept.{Kept}
 use Rattle.book_shim.specs.declared.refusal.Unsent.{Unsent}
-use Rattle.book_shim.specs.declared.refusal.Unsent.TheVariants.{Signed, NoContext, Range, NoKey, NoRoom, TooLong}
+use Rattle.book_shim.specs.declared.refusal.Unsent.TheVariants.{Unkeyed, Signed, NoContext, Range, NoKey, NoRoom, TooLong}
 use Rattle.book_shim.specs.declared.refusal.Untaken.{Untaken}
-use Rattle.book_shim.specs.declared.refusal.Untaken.TheVariants.{Checksum}
-use Rattle.book_shim.specs.Keeping.{Setting, demand, own_isn, peer_isn}
+use Rattle.book_shim.specs.declared.refusal.Untaken.TheVariants.{Unkeyed as Keyless, Checksum}
+use Rattle.book_shim.specs.Keeping.{Setting, demand, own_isn, peer_isn, is_keyed}
 use Rattle.book_shim.specs.Relaying.{written_by, in_words, rewritten, going, if_room, packed_in, fitted_from, fitted, relaid, with_area, summed, length_in_header, headers_length, most_mss}
 use Rattle.book_shim.specs.declared.trim.Trim.{Trim}
-use Rattle.book_shim.specs.Leaving.{Sealed, signs, entered, sealed_with, send_within, send_sealed, with_ao, ao_bytes, no_code}
+use Rattle.book_shim.specs.Leaving.{Sealed, signs, entered, kept_for, sealed_with, send_within, send_sealed, with_ao, ao_bytes, no_code}
 use Rattle.book_shim.specs.Arriving.{Opened, as_taken, judged_arrival, is_awaited, known_for, handed_on, take_in}
 use Rattle.law_shim.proofs.Meanings.{Sized}
 
@@ -116,10 +115,11 @@ fitted_words room area out e =
 
 -- how it came to what is sent
 pub record IsSealed (here : Setting) (pair : Pair) (g : Kept) (d : Segment) (m : Sealed) : Type 0 where
+  pub keyed : is_keyed here.rows pair ≡ true
   pub plain : list_any signs (plains (listed (options_of d.area))) ≡ false
   pub area : List ℕ
-  pub context_is : context_of d (own_isn (entered g d)) (peer_isn (entered g d)) ≡ Some m.context
-  pub number_is : segment_number d (Some (entered g d).sent) ≡ Some m.number
+  pub context_is : context_of d (own_isn (kept_for (entered g d) d)) (peer_isn (kept_for (entered g d) d)) ≡ Some m.context
+  pub number_is : segment_number d (Some (kept_for (entered g d) d).sent) ≡ Some m.number
   pub ends : m.number + segment_length d ≤ number_limit
   pub chosen : choose (entered g d).current here.rows pair here.now ≡ Some m.sending
   pub fits : fitted (40 - ao_length m.sending) d.area ≡ Some area
@@ -130,9 +130,11 @@ pub sends : (here : Setting) (pair : Pair) (g : Kept) (d : Segment) (m : Sealed)
 unfolding send_within
 sends here pair g d m h =
     let e = entered g d in
-    let b1 = bind_ok (demand (not (list_any signs (plains (listed (options_of d.area))))) Signed) _ m h in
-    let b3 = bind_ok (or_fault (context_of d (own_isn e) (peer_isn e)) NoContext) _ m b1.2 in
-    let b4 = bind_ok (or_fault (segment_number d (Some e.sent)) Range) _ m b3.2 in
+    let k = kept_for e d in
+    let b0 = bind_ok (demand (is_keyed here.rows pair) Unkeyed) _ m h in
+    let b1 = bind_ok (demand (not (list_any signs (plains (listed (options_of d.area))))) Signed) _ m b0.2 in
+    let b3 = bind_ok (or_fault (context_of d (own_isn k) (peer_isn k)) NoContext) _ m b1.2 in
+    let b4 = bind_ok (or_fault (segment_number d (Some k.sent)) Range) _ m b3.2 in
     let b5 = bind_ok (demand (nat_le (b4.0 + segment_length d) number_limit) Range) _ m b4.2 in
     let b6 = bind_ok (or_fault (choose e.current here.rows pair here.now) NoKey) _ m b5.2 in
     let b7 = bind_ok (or_fault (fitted (40 - ao_length b6.0) d.area) NoRoom) _ m b6.2 in
@@ -140,6 +142,7 @@ sends here pair g d m h =
     let is : sealed_with e d b7.0 (record { sending = b6.0; context = b3.0; number = b4.0 }) ≡ m = ok_is {F = Unsent} _ m b8.2 in
     let Goal : Sealed → Type 0 = λ x. IsSealed here pair g d x in
     subst Goal is (record {
+      keyed = demanded _ Unkeyed b0.0 b0.1;
       plain = not_true _ (demanded _ Signed b1.0 b1.1);
       area = b7.0;
       context_is = given_some _ NoContext _ b3.1;
@@ -238,6 +241,7 @@ blank_sized d area s f w whole =
 -- ---- what was opened
 
 pub record IsOpened (here : Setting) (pair : Pair) (g : Kept) (d : Segment) (t : Opened) : Type 0 where
+  pub keyed : is_keyed here.rows pair ≡ true
   pub right : good d ≡ true
   pub judgement : judge here.rows pair (known_for g d) here.now d ≡ Ok t.passed
   pub taken_is : t ≡ handed_on here pair g d t.passed
@@ -257,11 +261,13 @@ judged_ok here pair g d p e = judged_by (has SYN d && has ACK d && not (is_await
 pub takes : (here : Setting) (pair : Pair) (g : Kept) (d : Segment) (t : Opened) → take_in here pair g d ≡ Ok t → IsOpened here pair g d t
 unfolding take_in
 takes here pair g d t h =
-    let b1 = bind_ok (demand (good d) Checksum) _ t h in
+    let b0 = bind_ok (demand (is_keyed here.rows pair) Keyless) _ t h in
+    let b1 = bind_ok (demand (good d) Checksum) _ t b0.2 in
     let b2 = bind_ok (as_taken (judged_arrival here pair g d)) _ t b1.2 in
     let is : handed_on here pair g d b2.0 ≡ t = ok_is {F = Untaken} _ t b2.2 in
     let Goal : Opened → Type 0 = λ x. IsOpened here pair g d x in
     subst Goal is (record {
+      keyed = demanded _ Keyless b0.0 b0.1;
       right = demanded _ Checksum b1.0 b1.1;
       judgement = judged_ok here pair g d b2.0 (passed_is (judged_arrival here pair g d) b2.0 b2.1);
       taken_is = refl;

@@ -1,11 +1,11 @@
 //! What holds of each step.
-ghost use Rattle.std.specs.Prelude.{◌≡◌, ℕ, List, Ok, Err, Some, true};
+ghost use Rattle.std.specs.Prelude.{◌≡◌, ℕ, List, Ok, Err, Some, true, false};
 ghost use Rattle.book_base.specs.declared.address.Pair.{Pair};
 ghost use Rattle.book_segments.specs.Segments.{Segment, has, SYN, ACK};
 ghost use Rattle.book_shim.specs.declared.kept.Kept.{Kept};
 ghost use Rattle.book_shim.specs.declared.refusal.Unsent.{Unsent};
 ghost use Rattle.book_shim.specs.declared.refusal.Untaken.{Untaken};
-ghost use Rattle.book_shim.specs.Keeping.{Setting, answered_isn};
+ghost use Rattle.book_shim.specs.Keeping.{Setting, answered_isn, is_the_number};
 ghost use Rattle.book_shim.specs.Leaving.{Sealed, outbound, send_sealed};
 ghost use Rattle.book_segments.specs.Spelling.{AreBytes, Fits};
 ghost use Rattle.book_shim.specs.Arriving.{Opened, inbound, take_in};
@@ -38,11 +38,15 @@ pub fn opened_is_sealed()
         → send_sealed sending pair_there there d ≡ Ok m → IsMet here pair kept m → ComesOut here pair kept m }
 {}
 
-/// Once a SYN with ACK was sealed, and once one was taken, the guard has the connection of its two initial
-/// sequence numbers in use: the guards of both ends have the same two.
+/// Once a SYN with ACK was sealed, the guard has the connection of its two initial sequence numbers in
+/// use. So has a guard that took one which answers its own SYN that is out, and, as long as nothing but SYNs
+/// passed in its connection, one which answers no SYN given up: the guards of both ends have the same two. One
+/// that answers a SYN given up is late, and leaves the connection in use.
 pub fn both_know_the_numbers()
     ensures sealed_so { (here : Setting) (pair : Pair) (kept : Kept) (d : Segment) (m : Sealed) → send_sealed here pair kept d ≡ Ok m → has SYN d ≡ true → has ACK d ≡ true
         → m.kept.isns ≡ Some (record { own = d.sequence; peer = answered_isn d }) }
-    ensures taken_so { (here : Setting) (pair : Pair) (kept : Kept) (d : Segment) (t : Opened) → take_in here pair kept d ≡ Ok t → has SYN d ≡ true → has ACK d ≡ true
-        → t.kept.isns ≡ Some (record { own = answered_isn d; peer = d.sequence }) }
+    ensures joined_so { (here : Setting) (pair : Pair) (kept : Kept) (d : Segment) (t : Opened) → take_in here pair kept d ≡ Ok t → has SYN d ≡ true → has ACK d ≡ true
+        → is_the_number kept.opening (answered_isn d) ≡ true → t.kept.isns ≡ Some (record { own = answered_isn d; peer = d.sequence }) }
+    ensures anew_so { (here : Setting) (pair : Pair) (kept : Kept) (d : Segment) (t : Opened) → take_in here pair kept d ≡ Ok t → has SYN d ≡ true → has ACK d ≡ true
+        → is_the_number kept.given_up (answered_isn d) ≡ false → kept.settled ≡ false → t.kept.isns ≡ Some (record { own = answered_isn d; peer = d.sequence }) }
 {}

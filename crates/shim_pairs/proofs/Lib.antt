@@ -1,4 +1,7 @@
+pub mod AsLaws
+pub mod CopyLaws
 pub mod EldestLaws
 pub mod OutLaws
 pub mod PutLaws
+pub mod RoomLaws
 pub mod ShimLaws

@@ -1,6 +1,6 @@
 -- What a datagram of the own kernel does to the pairs of a shim.
-use Rattle.std.proofs.Common.{◌≡◌, ◌⊎◌, ◌≤◌, ℕ, Bool, true, false, List, [], ◌∷◌, length, Option, Some, None, Result, Ok, Err, refl, sym, ap, subst, ◌∙◌, inl, inr}
-use Rattle.std.specs.Prelude.{is_some, if◌then◌else◌, IfOk, OnErr}
+use Rattle.std.proofs.Common.{◌≡◌, ◌⊎◌, ◌+◌, arith, ℕ, List, length, Option, Some, None, Err, refl, sym, subst, ◌∙◌, inl, inr}
+use Rattle.std.specs.Option.{OnSome}
 use Rattle.std.specs.BTreeMap.{is_at}
 use Rattle.std.specs.List.{find}
 use Rattle.std.specs.Map.{set_value}
@@ -9,15 +9,16 @@ use Rattle.book_base.specs.Orders.{by_pair}
 use Rattle.book_segments.specs.Segments.{Segment, Read, reading}
 use Rattle.book_keys.specs.Rows.{Row, Table, has_address}
 use Rattle.book_shim.specs.declared.refusal.Unsent.{Unsent}
+use Rattle.book_shim.specs.Keeping.{fresh}
 use Rattle.book_shim.specs.Leaving.{outbound}
-use Rattle.ao_shim.specs.Guards.{Suits, Sent}
+use Rattle.ao_shim.specs.Guards.{Held, Suits, Sent}
 use Rattle.shim_pairs.specs.declared.entry.Entry.{Entry}
 use Rattle.shim_pairs.specs.declared.answer.Passed.{Passed}
-use Rattle.shim_pairs.specs.declared.answer.PairUnsent.{PairUnsent}
 use Rattle.shim_pairs.specs.declared.answer.PairUnsent.TheVariants as unsent
-use Rattle.shim_pairs.specs.Holdings.{Holding, found, rows_for, with_entry, with_another, of_entries, AllSuit, SuitsAt}
-use Rattle.shim_pairs.specs.Passing.{setting, pair_left, LeavesAt, Begins, IsRefusedOut, IsUnsent, IsLeft, Tells}
-use Rattle.shim_pairs.proofs.ShimLaws.{table_rows}
+use Rattle.shim_pairs.specs.Holdings.{Holding, found, rows_for, with_another, of_entries, AllSuit, SuitsAt, AllHaveRoom, HaveRoom, IsWhole, room_of}
+use Rattle.shim_pairs.specs.Passing.{setting, pair_left, LeavesAt, Begins, IsUnsent, IsLeft, Tells}
+use Rattle.pair_table.specs.Listings.{Listing}
+use Rattle.shim_pairs.proofs.ShimLaws.{rooms, table_rows}
 
 -- all suit where one more entry is held that suits
 pub suits_put : (tables : List Table) (es after : List (Pair × Entry)) (p : Pair) (e : Entry) → AllSuit tables es → SuitsAt tables p e
@@ -27,32 +28,27 @@ suits_put tables es after p e all suits each q f h = elim (each q f h) [
   | inr was ↦ all q f was
 ]
 
-module _ (tables : List Table) (es after : List (Pair × Entry)) (p : Pair) (t : Table) (table : Some t ≡ find (has_address p.local.address) tables) where
+module _ (tables : List Table) (p : Pair) (t : Table) (table : Some t ≡ find (has_address p.local.address) tables) where
   -- an entry of the pair that the table that was found suits
-  pub suits_by : (e : Entry) → e.guard.pair ≡ p → Suits t.rows e.guard → SuitsAt tables p e
-  suits_by e pair suits = record {
+  pub suits_by : (e : Entry) → e.guard.pair ≡ p → Suits t.rows e.guard → e.guard.keys.rows ≡ room_of tables → SuitsAt tables p e
+  suits_by e pair suits rows = record {
     pair_is = pair;
     suits = subst (λ (rows : List Row). Suits rows e.guard) (sym (table_rows tables p.local.address t table)) suits;
+    room = rows;
   }
-
-  -- all suit after a pair of which nothing was held
-  pub suits_begun : (now most : ℕ) (bytes old new : List ℕ) (r : Result Passed PairUnsent) → AllSuit tables es
-      → IfOk r (λ n. Begins t.rows p now most es after bytes old new n) → OnErr r (after ≡ es) → AllSuit tables after
-  suits_begun now most bytes old new (Ok n) all begins same = suits_put tables es after p begins.entry all (suits_by begins.entry begins.pair_is begins.suits) begins.each
-  suits_begun now most bytes old new (Err why) all begins same = rw same all
 
 module _ (h k : Holding) (p : Pair) (now : ℕ) (bytes old new : List ℕ) (t : Table) (table : Some t ≡ find (has_address p.local.address) h.tables) where
   rows : rows_for h p ≡ t.rows
   rows = table_rows h.tables p.local.address t table
 
   -- one of a pair of which nothing is held was sealed
-  pub leaves_fresh : (n : Passed) (after : List (Pair × Entry)) → found p h.entries ≡ None → k ≡ of_entries h after
-      → Begins t.rows p now h.most h.entries after bytes old new n → LeavesAt p now h k bytes old new n
-  leaves_fresh n after none same begins = record {
-    entry = begins.entry;
+  pub leaves_fresh : (n : Passed) (g : Held) → found p h.entries ≡ None → k ≡ of_entries h (with_another h.most h.entries p (record { guard = g; last = now }))
+      → Begins t.rows p now g bytes old new n → LeavesAt p now h k bytes old new n
+  leaves_fresh n g none same begins = record {
+    entry = record { guard = g; last = now };
     sent = λ mtu. rw (rows, none) (begins.sent mtu);
-    told = rw none begins.told;
-    held = same ∙ rw (begins.put, none) refl;
+    told = rw none (record { last_is = refl; changed_is = begins.changed_is });
+    held = same ∙ rw none refl;
   }
 
   -- one of a pair of which something is held was sealed
@@ -66,11 +62,9 @@ module _ (h k : Holding) (p : Pair) (now : ℕ) (bytes old new : List ℕ) (t : 
   }
 
   -- one of a pair of which nothing is held was refused
-  pub unsent_fresh : (why : PairUnsent) → found p h.entries ≡ None → ((q : Pair) → IsLeft q bytes → q ≡ p)
-      → IsRefusedOut t.rows p now bytes why → IsUnsent h now bytes why
-  unsent_fresh unsent.Memory none one refused = tt
-  unsent_fresh unsent.NoNode none one refused = absurd refused
-  unsent_fresh (unsent.Unsent why) none one refused = λ q to mtu. rw (one q to, rows, none) (refused mtu)
+  pub unsent_fresh : (why : Unsent) → found p h.entries ≡ None → ((q : Pair) → IsLeft q bytes → q ≡ p)
+      → ((mtu : ℕ) → outbound (setting t.rows now mtu) p fresh bytes ≡ Err why) → IsUnsent h now bytes (unsent.Unsent why)
+  unsent_fresh why none one refused = λ q to mtu. rw (one q to, rows, none) (refused mtu)
 
   -- one of a pair of which something is held was refused
   pub unsent_held : (why : Unsent) (e : Entry) → Some e ≡ found p h.entries → e.guard.pair ≡ p → ((q : Pair) → IsLeft q bytes → q ≡ p)
@@ -80,3 +74,24 @@ module _ (h k : Holding) (p : Pair) (now : ℕ) (bytes old new : List ℕ) (t : 
 -- the pair of a datagram is one
 pub one_left : (bytes : List ℕ) (d : Segment) (p : Pair) → reading bytes ≡ Read d → p ≡ pair_left d → (q : Pair) → IsLeft q bytes → q ≡ p
 one_left bytes d p read is q to = to d read ∙ sym is
+
+-- ---- the guards
+
+pub known : {A P : Type 0} (r : Option A) (x : A) → r ≡ Some x → OnSome r P → P
+known None x e h = absurd (cc)
+known (Some y) x e h = h
+
+-- the guards are as many as before, once one more has a pair
+pub whole_put : (ts : List Table) (before after : Listing Entry) (spares spares' : List Held) (hand guard hand' : Held) (p : Pair) (last : ℕ)
+    → IsWhole ts before.most before.entries spares hand → SuitsAt ts p (record { guard = guard; last = last })
+    → ((q : Pair) (f : Entry) → found q after.entries ≡ Some f → ((q ≡ p) × (f ≡ record { guard = guard; last = last })) ⊎ (found q before.entries ≡ Some f))
+    → after.most ≡ before.most → length after.entries + length spares' ≡ after.most
+    → ((rows : ℕ) → HaveRoom rows spares → HaveRoom rows spares') → ((rows : ℕ) → HaveRoom rows spares → AllHaveRoom rows before.entries → hand'.keys.rows ≡ rows)
+    → IsWhole ts after.most after.entries spares' hand'
+whole_put ts before after spares spares' hand guard hand' p last w suits each most count spare one = record {
+  all = suits_put ts before.entries after.entries p (record { guard = guard; last = last }) w.all suits each;
+  count = count;
+  some = let s = w.some in omega (arith, s, most);
+  spare_room = spare (room_of ts) w.spare_room;
+  hand_room = one (room_of ts) w.spare_room (rooms ts before.entries w.all);
+}

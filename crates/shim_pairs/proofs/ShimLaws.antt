@@ -1,9 +1,9 @@
 -- What calls do to the pairs of a shim.
-use Rattle.std.proofs.Common.{◌≡◌, ◌⊎◌, ℕ, Bool, true, false, List, [], ◌∷◌, Option, Some, None, Result, Ok, Err, refl, sym, ap, subst, ◌∙◌, inl, inr}
-use Rattle.std.specs.Prelude.{cond, is_some, option_map, if◌then◌else◌, IfOk, IfErr, OnErr}
+use Rattle.std.proofs.Common.{◌≡◌, arith, ℕ, Bool, true, false, List, [], ◌∷◌, Some, None, Result, Ok, Err, refl, sym, ap, subst, ◌∙◌}
+use Rattle.std.specs.Prelude.{cond, option_map, if◌then◌else◌, IfOk, IfErr, OnErr}
 use Rattle.std.specs.BTreeMap.{is_at}
 use Rattle.std.specs.List.{find}
-use Rattle.std.specs.Map.{lookup, set_value}
+use Rattle.std.specs.Map.{set_value}
 use Rattle.book_base.specs.declared.address.Address.{Address}
 use Rattle.book_base.specs.declared.address.Pair.{Pair}
 use Rattle.book_base.specs.Orders.{by_pair}
@@ -12,18 +12,17 @@ use Rattle.book_keys.specs.Plans.{rows_at, rows_of_table}
 use Rattle.book_keys.specs.Rows.{Row, Table, has_address}
 use Rattle.book_cmd_node.specs.NodeRuns.{same_pair}
 use Rattle.book_shim.specs.Keeping.{fresh}
-use Rattle.ao_shim.specs.Guards.{Suits, Taken, Sent}
+use Rattle.ao_shim.specs.Guards.{Held, Suits, Taken}
+use Rattle.std.proofs.lemmas.Map.{length-set_value}
 use Rattle.law_node.proofs.PairMaps.{set_finds}
 use Rattle.law_node.proofs.Pairs.{same_pair_is}
 use Rattle.shim_pairs.specs.declared.entry.Entry.{Entry}
 use Rattle.shim_pairs.specs.declared.answer.Passed.{Passed}
-use Rattle.shim_pairs.specs.declared.answer.PairUnsent.{PairUnsent}
-use Rattle.shim_pairs.specs.declared.answer.PairUntaken.{PairUntaken}
 use Rattle.shim_pairs.specs.declared.answer.PairUntaken.TheVariants as untaken
-use Rattle.shim_pairs.specs.Holdings.{Holding, found, holds, kept_at, kept_of, rows_for, with_entry, of_entries, AllSuit, SuitsAt}
+use Rattle.shim_pairs.specs.Holdings.{Holding, found, rows_for, of_entries, AllSuit, SuitsAt, AllHaveRoom, IsWhole, room_of}
 use Rattle.book_shim.specs.declared.refusal.Untaken.{Untaken}
 use Rattle.book_shim.specs.Arriving.{inbound}
-use Rattle.shim_pairs.specs.Passing.{setting, EntersAt, TakenFresh, IsRefusedIn, IsUntaken, IsReached, Stays, seen, Tells}
+use Rattle.shim_pairs.specs.Passing.{setting, EntersAt, TakenFresh, IsUntaken, IsReached, Stays, seen, Tells}
 
 -- the rows of the table that was found
 pub table_rows : (tables : List Table) (a : Address) (t : Table) → Some t ≡ find (has_address a) tables → rows_at tables a ≡ t.rows
@@ -36,10 +35,11 @@ module _ (tables : List Table) (es : List (Pair × Entry)) (p : Pair) where
 
   -- the entry that was found, with another guard of its pair that the table suits
   pub suits_at : AllSuit tables es → (e f : Entry) (t : Table) → Some e ≡ found p es → Some t ≡ find (has_address p.local.address) tables
-      → f.guard.pair ≡ e.guard.pair → Suits t.rows f.guard → SuitsAt tables p f
-  suits_at all e f t is at pair suits = record {
+      → f.guard.pair ≡ e.guard.pair → Suits t.rows f.guard → f.guard.keys.rows ≡ e.guard.keys.rows → SuitsAt tables p f
+  suits_at all e f t is at pair suits rows = record {
     pair_is = pair ∙ (all p e (sym is)).pair_is;
     suits = subst (λ (rows : List Row). Suits rows f.guard) (sym (table_rows tables p.local.address t at)) suits;
+    room = rows ∙ (all p e (sym is)).room;
   }
 
   -- all suit, once an entry was written that suits
@@ -98,11 +98,9 @@ module _ (h k : Holding) (p : Pair) (now mtu : ℕ) (bytes old new : List ℕ) (
   }
 
   -- one of a pair of which nothing is held was refused
-  pub refused_fresh : (why : PairUntaken) → found p h.entries ≡ None → ((q : Pair) → IsReached q bytes → q ≡ p)
-      → IsRefusedIn t.rows p now mtu bytes why → IsUntaken h now mtu bytes why
-  refused_fresh untaken.Memory none one refused = tt
-  refused_fresh untaken.NoNode none one refused = absurd refused
-  refused_fresh (untaken.Untaken why) none one refused = λ q to. rw (one q to, rows, none) refused
+  pub refused_fresh : (why : Untaken) → found p h.entries ≡ None → ((q : Pair) → IsReached q bytes → q ≡ p)
+      → inbound (setting t.rows now mtu) p fresh bytes ≡ Err why → IsUntaken h now mtu bytes (untaken.Untaken why)
+  refused_fresh why none one refused = λ q to. rw (one q to, rows, none) refused
 
   -- one of a pair of which something is held was refused
   pub refused_held : (why : Untaken) (e : Entry) → Some e ≡ found p h.entries → e.guard.pair ≡ p → ((q : Pair) → IsReached q bytes → q ≡ p)
@@ -128,3 +126,24 @@ stays_same h k same = rw same (record { tables_is = refl; most_is = refl; each =
 -- the pair of a datagram is one
 pub one_pair : (bytes : List ℕ) (d : Segment) (p : Pair) → reading bytes ≡ Read d → p ≡ pair_reached d → (q : Pair) → IsReached q bytes → q ≡ p
 one_pair bytes d p read is q to = to d read ∙ sym is
+
+-- ---- the guards
+
+-- all that is held has room
+pub rooms : (tables : List Table) (es : List (Pair × Entry)) → AllSuit tables es → AllHaveRoom (room_of tables) es
+rooms tables es all p e h = (all p e h).room
+
+-- the guards are as many as before, once an entry was written that suits
+pub whole_written : (tables : List Table) (most : ℕ) (es fs : List (Pair × Entry)) (spares : List Held) (hand : Held) (p : Pair) (f : Entry) → IsWhole tables most es spares hand
+    → fs ≡ set_value (is_at (by_pair p)) es f → AllSuit tables (set_value (is_at (by_pair p)) es f) → IsWhole tables most fs spares hand
+whole_written tables most es fs spares hand p f w same all = rw same (record {
+  all = all;
+  count = let n = length-set_value (is_at (by_pair p)) es f in let k = w.count in omega (arith, n, k);
+  some = w.some;
+  spare_room = w.spare_room;
+  hand_room = w.hand_room;
+})
+
+-- and once the one at hand had another pair
+pub whole_hand : (tables : List Table) (most : ℕ) (es : List (Pair × Entry)) (spares : List Held) (hand hand' : Held) → IsWhole tables most es spares hand → hand'.keys.rows ≡ hand.keys.rows → IsWhole tables most es spares hand'
+whole_hand tables most es spares hand hand' w same = record { all = w.all; count = w.count; some = w.some; spare_room = w.spare_room; hand_room = same ∙ w.hand_room }

@@ -1,8 +1,9 @@
 -- The pairs of sockets of which a shim keeps something, which one goes for want of room, and what
 -- is saved of them.
-use Rattle.std.specs.Prelude.{◌≡◌, ℕ, zero, suc, ◌/◌, ◌==◌, ◌&&◌, ◌||◌, nat_le, nat_lt, Bool, true, false, not}
-use Rattle.std.specs.Prelude.{slice_get, option_map, is_some, Result, Ok, Err, List, [], ◌∷◌, length, Option, Some, None, if◌then◌else◌}
-use Rattle.std.specs.List.{find}
+use Rattle.std.specs.Prelude.{◌≡◌, ◌+◌, ◌≤◌, ℕ, zero, suc, nat_le, nat_lt, Bool, true, false, not}
+use Rattle.std.specs.Prelude.{slice_get, option_map, is_some, Result, Err, List, [], ◌∷◌, length}
+use Rattle.std.specs.Prelude.{Option, Some, None, if◌then◌else◌}
+use Rattle.std.specs.List.{AllByRecursion, find}
 use Rattle.std.specs.Map.{lookup, remove_entry, set_value}
 use Rattle.std.specs.BTreeMap.{is_at, insert_entry}
 use Rattle.book_base.specs.declared.address.Pair.{Pair}
@@ -12,9 +13,11 @@ use Rattle.book_keys.specs.Plans.{rows_at}
 use Rattle.book_keys.specs.Rows.{Row, Table, has_address}
 use Rattle.book_shim.specs.declared.kept.Isns.{Isns}
 use Rattle.book_shim.specs.declared.kept.Kept.{Kept}
-use Rattle.book_shim.specs.Keeping.{fresh, are_isns, is_the_number}
+use Rattle.book_shim.specs.Keeping.{fresh}
+use Rattle.book_shim.specs.Saving.{resumed}
 use Rattle.ao_kdf.specs.Cache.{empty}
-use Rattle.ao_shim.specs.Guards.{Suits, resumed}
+use Rattle.ao_shim.specs.Guards.{Held, Suits}
+use Rattle.shim_pairs.specs.declared.counters.Counters.{Counters}
 use Rattle.shim_pairs.specs.declared.entry.Entry.{Entry}
 use Rattle.shim_pairs.specs.declared.saved.Saved.{Saved}
 use Rattle.shim_pairs.specs.declared.saved.RestoreRefusal.{RestoreRefusal}
@@ -81,40 +84,43 @@ with_entry most es p e =
 abbrev pub of_entries : Holding → List (Pair × Entry) → Holding
 of_entries h es = record h { entries = es }
 
--- an entry is of its pair, and the table of the pair's own address suits it (own)
+-- the larger one of two numbers (own)
+abbrev pub larger : (a b : ℕ) → ℕ
+larger a b = if nat_lt a b then b else a
+
+-- how many rows the largest table has (own)
+abbrev pub room_of : List Table → ℕ
+room_of [] = 0
+room_of (t ∷ ts) = larger (length t.rows) (room_of ts)
+
+-- an entry is of its pair, the table of the pair's own address suits it, and it has room for the
+-- keys of any other one (own)
 pub record SuitsAt (tables : List Table) (p : Pair) (e : Entry) : Type 0 where
   pub pair_is : e.guard.pair ≡ p
   pub suits : Suits (rows_at tables p.local.address) e.guard
+  pub room : e.guard.keys.rows ≡ room_of tables
 
 -- each entry is of its pair, and its table suits it (own)
 abbrev pub AllSuit : List Table → List (Pair × Entry) → Type 0
 AllSuit tables es = (p : Pair) (e : Entry) → found p es ≡ Some e → SuitsAt tables p e
 
--- these are the same two numbers, or none (own)
-abbrev pub same_isns : Option Isns → Option Isns → Bool
-same_isns None other = not (is_some other)
-same_isns (Some c) other = are_isns other c.own c.peer
+-- each guard has room for the keys of so many rows (own)
+abbrev pub HaveRoom : (rows : ℕ) → List Held → Type 0
+HaveRoom rows gs = AllByRecursion (λ (g : Held). g.keys.rows ≡ rows) gs
 
--- how far a number may go before what is kept is saved again (own)
-abbrev pub saved_stretch : ℕ
-saved_stretch = 536870912
+-- the guard of each entry that is found has room for the keys of so many rows (own)
+abbrev pub AllHaveRoom : (rows : ℕ) → List (Pair × Entry) → Type 0
+AllHaveRoom rows es = (p : Pair) (e : Entry) → found p es ≡ Some e → e.guard.keys.rows ≡ rows
 
--- this is the same row, or none (own)
-abbrev pub same_row : Option ℕ → Option ℕ → Bool
-same_row None other = not (is_some other)
-same_row (Some n) other = is_the_number other n
-
--- a connection is in use, and another row is current in it (own)
-abbrev pub has_other_key : Kept → Kept → Bool
-has_other_key g k = is_some k.isns && not (same_row g.current k.current)
-
--- what is kept must be saved before the datagram goes on: the numbers of another connection are in
--- use, another key is, or a number went past a whole stretch (own)
-abbrev pub is_to_save : Kept → Kept → Bool
-is_to_save g k =
-    not (same_isns g.isns k.isns) || (has_other_key g k
-    || (not (g.sent / saved_stretch == k.sent / saved_stretch)
-    || not (g.heard / saved_stretch == k.heard / saved_stretch)))
+-- each entry suits, and the guards that no pair has are as many as the pairs for which there is
+-- still room, and one more at hand (own)
+pub record IsWhole (tables : List Table) (most : ℕ) (entries : List (Pair × Entry))
+    (spares : List Held) (hand : Held) : Type 0 where
+  pub all : AllSuit tables entries
+  pub count : length entries + length spares ≡ most
+  pub some : 1 ≤ most
+  pub spare_room : HaveRoom (room_of tables) spares
+  pub hand_room : hand.keys.rows ≡ room_of tables
 
 -- the KeyID of the row of this number, from 1 (RFC 5925, section 3.1)
 abbrev pub sent_id : List Row → Option ℕ → Option ℕ
@@ -138,15 +144,10 @@ abbrev pub saved_entry : List Table → Pair → Entry → Option Saved
 saved_entry tables p e =
     saved_in (rows_at tables p.local.address) p e.guard.kept e.guard.kept.isns
 
--- in front of a list, where there is one (own)
-abbrev pub and_then : Option Saved → List Saved → List Saved
-and_then None rest = rest
-and_then (Some s) rest = s ∷ rest
-
--- what is saved of all pairs that have a connection, in their order (own)
-abbrev pub saved_of : List Table → List (Pair × Entry) → List Saved
-saved_of tables [] = []
-saved_of tables (x ∷ xs) = and_then (saved_entry tables x.0 x.1) (saved_of tables xs)
+-- what is saved of the pair at a place, if there is one and it has a connection (own)
+abbrev pub saved_at : List Table → Option (Pair × Entry) → Option Saved
+saved_at tables None = None
+saved_at tables (Some x) = saved_entry tables x.0 x.1
 
 -- the row that sends under this KeyID now, where one is told and there is one (RFC 5925, section
 -- 7.4)
@@ -154,24 +155,34 @@ abbrev pub current_by : List Row → Pair → (key_id : Option ℕ) → (now : �
 current_by rows p None now = None
 current_by rows p (Some id) now = follow None rows p id now
 
--- an entry of a connection that was saved, of which nothing passed yet (own)
-abbrev pub resumed_entry : List Row → (now : ℕ) → Saved → Entry
-resumed_entry rows now s = record {
+-- an entry of a connection that was saved, of which nothing passed yet, with room for the keys of
+-- so many rows (own)
+abbrev pub resumed_entry : (room : ℕ) → List Row → (now : ℕ) → Saved → Entry
+resumed_entry room rows now s = record {
   guard = record {
     pair = s.pair;
     kept = resumed s.isns s.sent s.heard (current_by rows s.pair s.key_id now);
-    keys = empty (length rows);
+    keys = empty room;
   };
   last = 0;
 }
+
+-- the shim after a connection that was saved was brought back (own)
+abbrev pub restored : Holding → (now : ℕ) → Saved → Holding
+restored h now s = of_entries h (with_another h.most h.entries s.pair
+    (resumed_entry (room_of h.tables) (rows_for h s.pair) now s))
 
 -- no node has the address (own)
 abbrev pub is_foreign : Holding → Pair → Bool
 is_foreign h p = not (is_some (find (has_address p.local.address) h.tables))
 
--- a connection is brought back, or memory ran out, unless the pair is held, or no node has its own
--- address (own)
+-- a connection is brought back, unless the pair is held, or no node has its own address (own)
 abbrev pub IsRefused : Holding → Pair → Result (Unit {0}) RestoreRefusal → Type 0
 IsRefused h p (Err refusals.Held) = holds h p ≡ true
 IsRefused h p (Err refusals.NoNode) = (holds h p ≡ false) × (is_foreign h p ≡ true)
 IsRefused h p _ = (holds h p ≡ false) × (is_foreign h p ≡ false)
+
+-- the pairs of a shim, and what it counted (own)
+pub record ShimState : Type 0 where
+  pub held : Holding
+  pub counters : Counters

@@ -1,3 +1,4 @@
-pub mod Closed
+pub mod Ages
+pub mod Counting
 pub mod Holdings
 pub mod Passing

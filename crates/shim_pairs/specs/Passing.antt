@@ -1,6 +1,6 @@
 -- What a datagram does to the pairs of a shim. The file's tops: `Leaves`, `IsUnsent`, `Enters`,
 -- `IsUntaken` and `Stays`.
-use Rattle.std.specs.Prelude.{◌≡◌, ◌⊎◌, ⊤, ℕ, false, List, Option, Some, None, option_map, Err}
+use Rattle.std.specs.Prelude.{◌≡◌, ℕ, false, List, Option, Some, None, option_map, Err}
 use Rattle.std.specs.BTreeMap.{is_at}
 use Rattle.std.specs.List.{find}
 use Rattle.std.specs.Map.{set_value}
@@ -12,7 +12,7 @@ use Rattle.book_shim.specs.declared.kept.Kept.{Kept}
 use Rattle.book_shim.specs.Keeping.{Setting, fresh}
 use Rattle.book_shim.specs.Leaving.{outbound}
 use Rattle.book_shim.specs.Arriving.{inbound}
-use Rattle.ao_shim.specs.Guards.{Sent, Suits, Taken}
+use Rattle.ao_shim.specs.Guards.{Held, Sent, Suits, Taken}
 use Rattle.shim_pairs.specs.declared.entry.Entry.{Entry}
 use Rattle.shim_pairs.specs.declared.answer.Passed.{Passed}
 use Rattle.shim_pairs.specs.declared.answer.PairUnsent.{PairUnsent}
@@ -20,7 +20,7 @@ use Rattle.shim_pairs.specs.declared.answer.PairUnsent.TheVariants as unsent
 use Rattle.shim_pairs.specs.declared.answer.PairUntaken.{PairUntaken}
 use Rattle.shim_pairs.specs.declared.answer.PairUntaken.TheVariants as untaken
 use Rattle.shim_pairs.specs.Holdings.{Holding, found, kept_at, rows_for, with_entry, of_entries}
-use Rattle.shim_pairs.specs.Holdings.{is_to_save, with_another}
+use Rattle.book_shim.specs.Saving.{is_to_save}
 
 -- the pair of a datagram of the own kernel: its source is the own socket (own)
 abbrev pub pair_left : Segment → Pair
@@ -67,14 +67,12 @@ HasNoNode h pair bytes =
 
 -- a datagram of the own kernel doesn't go on, for this reason (own)
 abbrev pub IsUnsent : Holding → (now : ℕ) → List ℕ → PairUnsent → Type 0
-IsUnsent h now bytes unsent.Memory = ⊤
 IsUnsent h now bytes unsent.NoNode = HasNoNode h pair_left bytes
 IsUnsent h now bytes (unsent.Unsent why) = (p : Pair) → IsLeft p bytes
     → (mtu : ℕ) → outbound (setting (rows_for h p) now mtu) p (kept_at h p) bytes ≡ Err why
 
 -- a datagram from the network doesn't go on, for this reason (own)
 abbrev pub IsUntaken : Holding → (now mtu : ℕ) → List ℕ → PairUntaken → Type 0
-IsUntaken h now mtu bytes untaken.Memory = ⊤
 IsUntaken h now mtu bytes untaken.NoNode = HasNoNode h pair_reached bytes
 IsUntaken h now mtu bytes (untaken.Untaken why) = (p : Pair) → IsReached p bytes
     → inbound (setting (rows_for h p) now mtu) p (kept_at h p) bytes ≡ Err why
@@ -117,24 +115,13 @@ pub record Stays (before after : Holding) : Type 0 where
   pub each : (q : Pair) → option_map seen (found q after.entries)
       ≡ option_map seen (found q before.entries)
 
--- a datagram of a pair of which nothing was held was sealed (own)
-pub record Begins (rows : List Row) (pair : Pair) (now most : ℕ) (before after : List (Pair × Entry))
-    (bytes old new : List ℕ) (p : Passed) : Type 0 where
-  pub entry : Entry
-  pub pair_is : entry.guard.pair ≡ pair
-  pub suits : Suits rows entry.guard
-  pub sent : (mtu : ℕ) → Sent (setting rows now mtu) pair fresh entry.guard.kept bytes old new p.length
-  pub told : Tells now fresh entry p
-  pub put : after ≡ with_another most before pair entry
-  pub each : (q : Pair) (e : Entry) → found q after ≡ Some e
-      → ((q ≡ pair) × (e ≡ entry)) ⊎ (found q before ≡ Some e)
-
--- the same of one that was refused (own)
-abbrev pub IsRefusedOut : List Row → Pair → (now : ℕ) → List ℕ → PairUnsent → Type 0
-IsRefusedOut rows pair now bytes unsent.Memory = ⊤
-IsRefusedOut rows pair now bytes unsent.NoNode = ⊥
-IsRefusedOut rows pair now bytes (unsent.Unsent why) =
-    (mtu : ℕ) → outbound (setting rows now mtu) pair fresh bytes ≡ Err why
+-- a datagram of a pair of which nothing was held was sealed by this guard (own)
+pub record Begins (rows : List Row) (pair : Pair) (now : ℕ) (guard : Held) (bytes old new : List ℕ)
+    (p : Passed) : Type 0 where
+  pub pair_is : guard.pair ≡ pair
+  pub suits : Suits rows guard
+  pub sent : (mtu : ℕ) → Sent (setting rows now mtu) pair fresh guard.kept bytes old new p.length
+  pub changed_is : p.changed ≡ is_to_save fresh guard.kept
 
 -- a datagram of a pair of which nothing is held was opened (own)
 pub record TakenFresh (rows : List Row) (pair : Pair) (now mtu : ℕ) (bytes old new : List ℕ)
@@ -142,10 +129,3 @@ pub record TakenFresh (rows : List Row) (pair : Pair) (now mtu : ℕ) (bytes old
   pub entry : Entry
   pub taken : Taken (setting rows now mtu) pair fresh entry.guard.kept bytes old new p.length
   pub told : p.changed ≡ false
-
--- the same of one that was refused (own)
-abbrev pub IsRefusedIn : List Row → Pair → (now mtu : ℕ) → List ℕ → PairUntaken → Type 0
-IsRefusedIn rows pair now mtu bytes untaken.Memory = ⊤
-IsRefusedIn rows pair now mtu bytes untaken.NoNode = ⊥
-IsRefusedIn rows pair now mtu bytes (untaken.Untaken why) =
-    inbound (setting rows now mtu) pair fresh bytes ≡ Err why

@@ -1,10 +1,6 @@
 //! What a shim answers.
-ghost use Rattle.std.specs.Prelude.{◌≡◌};
-ghost use Rattle.shim_pairs.specs.declared.answer.PairUnsent.TheVariants.{Memory as NoMemoryToSend};
-ghost use Rattle.shim_pairs.specs.declared.answer.PairUntaken.TheVariants.{Memory as NoMemoryToTake};
 
 use book_shim::{Unsent, Untaken};
-use std::alloc::AllocError;
 
 /// A datagram that goes on.
 #[derive(Clone, Copy, Debug, PartialEq, Eq)]
@@ -19,8 +15,6 @@ pub struct Passed {
 /// Why a datagram of the own kernel doesn't go on.
 #[derive(Clone, Copy, Debug, PartialEq, Eq)]
 pub enum PairUnsent {
-    /// Memory ran out for another pair.
-    Memory,
     /// No node has the own address.
     NoNode,
     /// The guard of its pair says so.
@@ -30,26 +24,8 @@ pub enum PairUnsent {
 /// Why a datagram from the network doesn't go on.
 #[derive(Clone, Copy, Debug, PartialEq, Eq)]
 pub enum PairUntaken {
-    /// Memory ran out for the guard of a pair of which nothing is held.
-    Memory,
     /// No node has the own address.
     NoNode,
     /// The guard of its pair says so.
     Untaken(Untaken),
-}
-
-impl From<AllocError> for PairUnsent {
-    ghost from_gives = { λ _ e. e ≡ NoMemoryToSend };
-
-    fn from(_error: AllocError) -> PairUnsent {
-        PairUnsent::Memory
-    }
-}
-
-impl From<AllocError> for PairUntaken {
-    ghost from_gives = { λ _ e. e ≡ NoMemoryToTake };
-
-    fn from(_error: AllocError) -> PairUntaken {
-        PairUntaken::Memory
-    }
 }

@@ -1,6 +1,6 @@
 //! Whether what is kept of a pair must be saved.
 ghost use Rattle.std.specs.Prelude.{◌≡◌};
-ghost use Rattle.shim_pairs.specs.Holdings as book;
+ghost use Rattle.book_shim.specs.Saving as book;
 
 use book_shim::{Isns, Kept};
 
@@ -9,7 +9,7 @@ const STRETCH: u64 = 536_870_912;
 
 /// Whether these are the same two numbers, or none.
 fn same_isns(one: Option<Isns>, other: Option<Isns>) -> bool
-    ensures { result ≡ book.same_isns one other }
+    ensures { result ≡ book.is_same_connection one other }
 {
     match (one, other) {
         (None, other) => other.is_none(),

@@ -40,6 +40,7 @@ impl Entry {
         ensures unchanged { OnErr result ((self.new ≡ self.old) × (out.new ≡ out.old)) }
         ensures pair { self.new.guard.pair ≡ self.old.guard.pair }
         ensures suits { Suits table.now.rows self.new.guard }
+        ensures rows { self.new.guard.keys.rows ≡ self.old.guard.keys.rows }
         ensures most { steps.new ≤ steps.old + 1 }
     {
         let before = self.guard.kept();
@@ -71,6 +72,7 @@ impl Entry {
         ensures out { OnErr result (out.new ≡ out.old) }
         ensures pair { self.new.guard.pair ≡ self.old.guard.pair }
         ensures suits { Suits table.now.rows self.new.guard }
+        ensures rows { self.new.guard.keys.rows ≡ self.old.guard.keys.rows }
         ensures most { steps.new ≤ steps.old + 1 }
     {
         let before = self.guard.kept();

@@ -1,21 +1,23 @@
 //! A datagram from the network.
-ghost use Rattle.std.specs.Prelude.{◌≡◌, ◌+◌, ◌≤◌, length, IfOk, IfErr, OnErr};
-ghost use Rattle.shim_pairs.specs.Passing.{Enters, IsUntaken, Stays, TakenFresh, IsRefusedIn};
+ghost use Rattle.std.specs.Prelude.{◌≡◌, ◌+◌, ◌≤◌, Err, length, IfOk, IfErr, OnErr};
+ghost use Rattle.book_shim.specs.Arriving.{inbound};
+ghost use Rattle.book_shim.specs.Keeping.{fresh};
+ghost use Rattle.shim_pairs.specs.Passing.{Enters, IsUntaken, Stays, TakenFresh, setting};
 
 use crate::answer::{PairUntaken, Passed};
-use crate::shim::Shim;
+use crate::pairs::Pairs;
 use ao_base::Steps;
 use ao_shim::Guard;
 use book_base::Pair;
 use book_shim::Untaken;
 use key_table::Table;
-use std::alloc::Global;
 use std::sync::ledger::Ledger;
 use tcp_segment::read_datagram;
 
-/// Opens a datagram of a pair of which nothing is held: a SYN at most passes, and nothing is kept.
+/// Opens a datagram of a pair of which nothing is held, by the guard at hand: a SYN at most passes, and
+/// nothing is kept.
 fn open_unknown<L: Ledger>(
-    alloc: Global,
+    hand: &mut Guard,
     pair: &Pair,
     table: &Table,
     mtu: u16,
@@ -23,16 +25,18 @@ fn open_unknown<L: Ledger>(
     bytes: &[u8],
     out: &mut [u8],
     steps: &mut Steps<L>,
-) -> Result<Passed, PairUntaken>
+) -> Result<Passed, Untaken>
+    requires rows { length table.now.rows ≤ hand.old.keys.rows }
     requires room { length bytes.now ≤ length out.old }
     ensures taken { IfOk result (λ p. TakenFresh table.now.rows pair.now now mtu bytes.now out.old out.new p) }
-    ensures refused { IfErr result (λ why. IsRefusedIn table.now.rows pair.now now mtu bytes.now why) }
+    ensures refused { IfErr result (λ why. inbound (setting table.now.rows now mtu) pair.now fresh bytes.now ≡ Err why) }
     ensures out { OnErr result (out.new ≡ out.old) }
+    ensures rows { hand.new.keys.rows ≡ hand.old.keys.rows }
     ensures most { steps.new ≤ steps.old + 1 }
 {
-    let mut guard = Guard::new(alloc, *pair, table.rows())?;
-    match guard.inbound(table, mtu, now, bytes, out, steps) {
-        Err(why) => Err(PairUntaken::Untaken(why)),
+    hand.begin(*pair);
+    match hand.inbound(table, mtu, now, bytes, out, steps) {
+        Err(why) => Err(why),
         Ok(length) => Ok(Passed {
             length,
             changed: false,
@@ -40,18 +44,10 @@ fn open_unknown<L: Ledger>(
     }
 }
 
-impl Shim {
-    /// Opens a datagram from the network, which must pass the check (RFC 5925, section 7.5), by the table of
-    /// its destination address: what the own kernel takes in its place, without TCP-AO, stands in front of
-    /// `out`, and what is behind it stays; else it says why nothing is taken, and then nothing has changed
-    /// but traffic keys that are kept. Of a pair of which nothing is held nothing is kept either: a SYN that
-    /// passes may be a replay, and the own kernel's answer tells both numbers.
-    ///
-    /// `out` has as many bytes as the datagram; `mtu` is that of the device over which it came. At most one
-    /// traffic key is derived.
-    pub fn inbound<L: Ledger>(
+impl Pairs {
+    /// Opens a datagram from the network, whose bytes are in another buffer than `out`.
+    pub(crate) fn inbound<L: Ledger>(
         &mut self,
-        alloc: Global,
         mtu: u16,
         now: u64,
         bytes: &[u8],
@@ -78,7 +74,12 @@ impl Shim {
             Some(table) => table,
         };
         match self.entries.get_mut(&pair) {
-            None => open_unknown(alloc, &pair, table, mtu, now, bytes, out, steps),
+            None => {
+                match open_unknown(&mut self.hand, &pair, table, mtu, now, bytes, out, steps) {
+                    Err(why) => Err(PairUntaken::Untaken(why)),
+                    Ok(passed) => Ok(passed),
+                }
+            }
             Some(entry) => match entry.open(table, mtu, now, bytes, out, steps) {
                 Err(why) => Err(PairUntaken::Untaken(why)),
                 Ok(passed) => Ok(passed),

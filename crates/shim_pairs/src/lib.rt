@@ -1,20 +1,24 @@
 //! TCP-AO for the connections of a kernel's TCP that has none (RFC 5925): many pairs of sockets, each
 //! with its guard, found by the sockets of a datagram. Where as many pairs are held as there may be, the
-//! one of which nothing passed for longest goes as another one comes about.
+//! one of which nothing passed for longest goes as another one comes about. After `Shim::new` nothing
+//! takes memory.
 #![tactic(auto)]
 
 mod answer;
 mod changes;
+mod copy;
+mod counters;
 mod eldest;
 mod entry;
 mod inbound;
-mod laws;
 mod outbound;
+mod pairs;
 mod put;
+mod room;
 mod saved;
 mod shim;
 
 pub use answer::{PairUnsent, PairUntaken, Passed};
-pub use laws::fails_closed;
+pub use counters::{ArrivingCounters, Counters, FaultCounters, LeavingCounters, VerdictCounters};
 pub use saved::{RestoreRefusal, Saved};
 pub use shim::Shim;

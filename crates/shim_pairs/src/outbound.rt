@@ -1,59 +1,55 @@
 //! A datagram of the own kernel.
-ghost use Rattle.std.specs.Prelude.{◌≡◌, ◌+◌, ◌≤◌, length, IfOk, IfErr, OnErr};
-ghost use Rattle.shim_pairs.specs.Passing.{Begins, IsRefusedOut, IsUnsent, Leaves};
+ghost use Rattle.std.specs.Prelude.{◌≡◌, ◌+◌, ◌≤◌, ℕ, Err, length, IfOk, IfErr, OnErr};
+ghost use Rattle.book_shim.specs.Keeping.{fresh};
+ghost use Rattle.book_shim.specs.Leaving.{outbound};
+ghost use Rattle.shim_pairs.specs.Passing.{Begins, IsUnsent, Leaves, setting};
 
 use crate::answer::{PairUnsent, Passed};
-use crate::entry::Entry;
+use crate::changes::is_to_save;
+use crate::pairs::Pairs;
 use crate::put::put;
-use crate::shim::Shim;
 use ao_base::Steps;
 use ao_shim::Guard;
 use book_base::Pair;
 use book_shim::Unsent;
 use key_table::Table;
-use std::alloc::Global;
-use std::collections::BTreeMap;
 use std::sync::ledger::Ledger;
 use tcp_segment::read_datagram;
 
-/// Seals a datagram of a pair of which nothing is held.
-fn begin<L: Ledger>(
-    alloc: Global,
-    entries: &mut BTreeMap<Pair, Entry>,
-    most: u16,
+/// Seals a datagram of a pair of which nothing is held, by the guard at hand.
+fn seal_first<L: Ledger>(
+    hand: &mut Guard,
     pair: &Pair,
     table: &Table,
     now: u64,
     bytes: &[u8],
     out: &mut [u8],
     steps: &mut Steps<L>,
-) -> Result<Passed, PairUnsent>
+) -> Result<Passed, Unsent>
+    requires rows { length table.now.rows ≤ hand.old.keys.rows }
     requires room { length bytes.now + 20 ≤ length out.old }
-    ensures sent { IfOk result (λ p. Begins table.now.rows pair.now now most entries.old.entries entries.new.entries bytes.now out.old out.new p) }
-    ensures refused { IfErr result (λ why. IsRefusedOut table.now.rows pair.now now bytes.now why) }
-    ensures unchanged { OnErr result (entries.new.entries ≡ entries.old.entries) }
+    ensures sent { IfOk result (λ p. Begins table.now.rows pair.now now hand.new bytes.now out.old out.new p) }
+    ensures refused { IfErr result (λ why. (mtu : ℕ) → outbound (setting table.now.rows now mtu) pair.now fresh bytes.now ≡ Err why) }
+    ensures out { OnErr result (out.new ≡ out.old) }
+    ensures rows { hand.new.keys.rows ≡ hand.old.keys.rows }
     ensures most { steps.new ≤ steps.old + 1 }
 {
-    let guard = Guard::new(alloc, *pair, table.rows())?;
-    let mut entry = Entry { guard, last: now };
-    let passed = match entry.seal(table, now, bytes, out, steps) {
-        Ok(passed) => passed,
-        Err(why) => return Err(PairUnsent::Unsent(why)),
-    };
-    put(entries, most, pair, entry)?;
-    Ok(passed)
+    hand.begin(*pair);
+    let before = hand.kept();
+    match hand.outbound(table, now, bytes, out, steps) {
+        Err(why) => Err(why),
+        Ok(length) => {
+            let after = hand.kept();
+            let changed = is_to_save(&before, &after);
+            Ok(Passed { length, changed })
+        }
+    }
 }
 
-impl Shim {
-    /// Seals a datagram of the own kernel under the key of the row to send with (RFC 5925, section 7.4), by
-    /// the table of its source address: what is sent in its place stands in front of `out`, and what is
-    /// behind it stays; else it says why nothing is sent, and then no pair has changed. A pair of which
-    /// nothing is held comes about only where its datagram goes on; after `Memory` `out` may hold anything.
-    ///
-    /// `out` has 20 bytes more than the datagram. At most one traffic key is derived.
-    pub fn outbound<L: Ledger>(
+impl Pairs {
+    /// Seals a datagram of the own kernel, whose bytes are in another buffer than `out`.
+    pub(crate) fn outbound<L: Ledger>(
         &mut self,
-        alloc: Global,
         now: u64,
         bytes: &[u8],
         out: &mut [u8],
@@ -63,6 +59,7 @@ impl Shim {
         ensures sent { IfOk result (λ p. Leaves now self.old self.new bytes.now out.old out.new p) }
         ensures refused { IfErr result (λ why. IsUnsent self.old now bytes.now why) }
         ensures unchanged { OnErr result (self.new ≡ self.old) }
+        ensures out { OnErr result (out.new ≡ out.old) }
         ensures most { steps.new ≤ steps.old + 1 }
     {
         let datagram = match read_datagram(bytes) {
@@ -78,17 +75,19 @@ impl Shim {
             Some(table) => table,
         };
         match self.entries.get_mut(&pair) {
-            None => begin(
-                alloc,
-                &mut self.entries,
-                self.most,
-                &pair,
-                table,
-                now,
-                bytes,
-                out,
-                steps,
-            ),
+            None => match seal_first(&mut self.hand, &pair, table, now, bytes, out, steps) {
+                Err(why) => Err(PairUnsent::Unsent(why)),
+                Ok(passed) => {
+                    put(
+                        &mut self.entries,
+                        &mut self.spares,
+                        &mut self.hand,
+                        &pair,
+                        now,
+                    );
+                    Ok(passed)
+                }
+            },
             Some(entry) => match entry.seal(table, now, bytes, out, steps) {
                 Err(why) => Err(PairUnsent::Unsent(why)),
                 Ok(passed) => Ok(passed),

@@ -1,17 +1,18 @@
 use Rattle.std.proofs.Common.{◌≡◌, ℕ, Some, true, false, ap, sym, subst, ◌∙◌, arith}
 use Rattle.book_base.specs.declared.address.Socket.{Socket}
 use Rattle.book_segments.specs.Sockets.{same_socket}
-use Rattle.book_segments.specs.Segments.{Read, reading, has, SYN}
+use Rattle.book_segments.specs.Segments.{Read, reading}
 use Rattle.book_macs.specs.Contexts.{bytes_of}
 use Rattle.book_shim.specs.declared.kept.Kept.{Kept}
+use Rattle.book_shim.specs.Keeping.{is_keyed}
 use Rattle.book_shim.specs.Leaving.{entered, past_sent, sealed_with}
 use Rattle.key_coordination.specs.declared.choice.Sending.{Sending as Answer}
 use Rattle.ao_kdf.specs.declared.way.Way.TheVariants.{Outbound}
 use Rattle.ao_kdf.specs.Cache.{kept}
 use Rattle.ao_check.proofs.KeyLaws.{one_step}
-use Rattle.ao_shim.specs.Guards.{AreLow, Suits}
+use Rattle.ao_shim.specs.Guards.{AreLow, Suits, is_single_use}
 use Rattle.ao_shim.proofs.KeptLaws.{entered_low, past_sent_low, past_sent_isns, has_key, suits_sealed, suits_same}
-use Rattle.ao_shim.proofs.OutLaws.{unread, foreign_source, foreign_destination, own, costs, no_cost}
+use Rattle.ao_shim.proofs.OutLaws.{unread, foreign_source, foreign_destination, unkeyed, own, costs, no_cost}
 use Rattle.ao_shim.proofs.SealLaws.{read_fits}
 use Rattle.ao_shim.proofs.leaving.sealed.Goals as goal
 
@@ -31,6 +32,14 @@ returns-then-not-is_same_socket-2-clause-refused g c = λ mtu.
     let source : same_socket c.in-Ok.datagram.source c.args.pair.now.local ≡ true = ap (λ (s : Socket). same_socket s c.args.pair.now.local) (sym c.source.ensures.value) ∙ (sym c.is_same_socket.ensures.told ∙ c.if-not-is_same_socket.false) in
     let destination : same_socket c.in-Ok.datagram.destination c.args.pair.now.remote ≡ false = ap (λ (s : Socket). same_socket s c.args.pair.now.remote) (sym c.destination.ensures.value) ∙ (sym c.is_same_socket-2.ensures.told ∙ c.if-not-is_same_socket-2.true) in
     foreign_destination (record { rows = c.args.table.now.rows; now = c.args.now; mtu = mtu }) c.args.pair.now c.args.before.now c.args.bytes.now c.in-Ok.datagram read source destination
+
+pub returns-then-not-is_keyed-clause-refused : goal.returns-then-not-is_keyed-clause-refused
+returns-then-not-is_keyed-clause-refused g c = λ mtu.
+    let read : reading c.args.bytes.now ≡ Read c.in-Ok.datagram = c.in-Ok.ensures.read in
+    let source : same_socket c.in-Ok.datagram.source c.args.pair.now.local ≡ true = ap (λ (s : Socket). same_socket s c.args.pair.now.local) (sym c.source.ensures.value) ∙ (sym c.is_same_socket.ensures.told ∙ c.if-not-is_same_socket.false) in
+    let destination : same_socket c.in-Ok.datagram.destination c.args.pair.now.remote ≡ true = ap (λ (s : Socket). same_socket s c.args.pair.now.remote) (sym c.destination.ensures.value) ∙ (sym c.is_same_socket-2.ensures.told ∙ c.if-not-is_same_socket-2.false) in
+    let keyed : is_keyed c.args.table.now.rows c.args.pair.now ≡ false = sym c.is_keyed.ensures ∙ c.if-not-is_keyed.true in
+    own (record { rows = c.args.table.now.rows; now = c.args.now; mtu = mtu }) c.args.pair.now c.args.before.now c.args.bytes.now c.in-Ok.datagram read source destination ∙ unkeyed (record { rows = c.args.table.now.rows; now = c.args.now; mtu = mtu }) c.args.pair.now (entered c.args.before.now c.in-Ok.datagram) c.in-Ok.datagram keyed
 
 pub returns-in-Err-planned-clause-refused : goal.returns-in-Err-planned-clause-refused
 returns-in-Err-planned-clause-refused g c = λ mtu.
@@ -56,6 +65,14 @@ returns-then-not-is_same_socket-2-clause-counted g c = λ mtu m m-is.
     let destination : same_socket c.in-Ok.datagram.destination c.args.pair.now.remote ≡ false = ap (λ (s : Socket). same_socket s c.args.pair.now.remote) (sym c.destination.ensures.value) ∙ (sym c.is_same_socket-2.ensures.told ∙ c.if-not-is_same_socket-2.true) in
     no_cost (sym m-is ∙ foreign_destination (record { rows = c.args.table.now.rows; now = c.args.now; mtu = mtu }) c.args.pair.now c.args.before.now c.args.bytes.now c.in-Ok.datagram read source destination)
 
+pub returns-then-not-is_keyed-clause-counted : goal.returns-then-not-is_keyed-clause-counted
+returns-then-not-is_keyed-clause-counted g c = λ mtu m m-is.
+    let read : reading c.args.bytes.now ≡ Read c.in-Ok.datagram = c.in-Ok.ensures.read in
+    let source : same_socket c.in-Ok.datagram.source c.args.pair.now.local ≡ true = ap (λ (s : Socket). same_socket s c.args.pair.now.local) (sym c.source.ensures.value) ∙ (sym c.is_same_socket.ensures.told ∙ c.if-not-is_same_socket.false) in
+    let destination : same_socket c.in-Ok.datagram.destination c.args.pair.now.remote ≡ true = ap (λ (s : Socket). same_socket s c.args.pair.now.remote) (sym c.destination.ensures.value) ∙ (sym c.is_same_socket-2.ensures.told ∙ c.if-not-is_same_socket-2.false) in
+    let keyed : is_keyed c.args.table.now.rows c.args.pair.now ≡ false = sym c.is_keyed.ensures ∙ c.if-not-is_keyed.true in
+    no_cost (sym m-is ∙ (own (record { rows = c.args.table.now.rows; now = c.args.now; mtu = mtu }) c.args.pair.now c.args.before.now c.args.bytes.now c.in-Ok.datagram read source destination ∙ unkeyed (record { rows = c.args.table.now.rows; now = c.args.now; mtu = mtu }) c.args.pair.now (entered c.args.before.now c.in-Ok.datagram) c.in-Ok.datagram keyed))
+
 pub returns-in-Err-planned-clause-counted : goal.returns-in-Err-planned-clause-counted
 returns-in-Err-planned-clause-counted g c = λ mtu m m-is.
     let read : reading c.args.bytes.now ≡ Read c.in-Ok.datagram = c.in-Ok.ensures.read in
@@ -70,7 +87,7 @@ seal-end-requires-clause-key g c = λ r here.
     let from : c.in-Ok.datagram.source ≡ c.args.pair.now.local = sym c.source.ensures.value ∙ c.is_same_socket.ensures.same c.if-not-is_same_socket.false in
     let to : c.in-Ok.datagram.destination ≡ c.args.pair.now.remote = sym c.destination.ensures.value ∙ c.is_same_socket-2.ensures.same c.if-not-is_same_socket-2.false in
     let suits : Suits c.args.table.now.rows (record { pair = c.args.pair.now; kept = c.in-Ok-planned.plan.kept; keys = c.renew.new.keys }) = c.renew.ensures.suits c.args.table.now.rows c.args.pair.now c.requires.suits in
-    has_key c.args.table.now.rows c.args.pair.now c.in-Ok-planned.plan.kept c.renew.new.keys c.in-Ok.datagram c.in-Ok-planned.plan r suits q.ready.high q.context_is from to here
+    has_key c.args.table.now.rows c.args.pair.now c.renew.new.keys c.in-Ok.datagram c.in-Ok-planned.plan r suits q.ready.high q.context_is from to here
 
 pub past_sent-sent-requires : goal.past_sent-sent-requires
 past_sent-sent-requires g c =
@@ -125,4 +142,4 @@ returns-clause-counted g c = λ mtu m m-is.
 
 pub returns-clause-most : goal.returns-clause-most
 returns-clause-most g c =
-    omega (arith, c.seal-end.ensures.counted, one_step (has SYN c.in-Ok.datagram) (kept c.renew.new.keys c.in-Ok-planned.plan.sending.row Outbound))
+    omega (arith, c.seal-end.ensures.counted, one_step (is_single_use c.in-Ok-planned.plan.kept c.in-Ok.datagram) (kept c.renew.new.keys c.in-Ok-planned.plan.sending.row Outbound))

@@ -11,8 +11,8 @@ use Rattle.ao_shim.proofs.SealLaws.{mac_as, read_same}
 use Rattle.ao_shim.proofs.seal.code_of.Goals as goal
 
 pub mac_under-requires-clause-kept : goal.mac_under-requires-clause-kept
-mac_under-requires-clause-kept g c = λ syn.
-    c.requires.kept c.row-row.result.now (got c.args.table.now.rows (c.args.plan.now.sending.row - 1) c.row-row.result.now (omega (arith, c.requires.low, c.requires.high)) c.row-row.ensures) syn
+mac_under-requires-clause-kept g c = λ once.
+    c.requires.kept c.row-row.result.now (got c.args.table.now.rows (c.args.plan.now.sending.row - 1) c.row-row.result.now (omega (arith, c.requires.low, c.requires.high)) c.row-row.ensures) once
 
 pub returns-clause-mac : goal.returns-clause-mac
 returns-clause-mac g c = λ r d here read.
@@ -26,8 +26,8 @@ returns-clause-length g c = λ r here.
 
 pub returns-clause-keys : goal.returns-clause-keys
 returns-clause-keys g c = λ r here.
-    c.mac_under.ensures.keys ∙ ap (λ (x : Row). keys_after c.args.syn c.args.keys.now c.args.plan.now.sending.row Outbound (traffic_key x.algorithm x.master (bytes_of c.args.plan.now.context))) (same_at c.args.table.now.rows c.args.plan.now.sending.row c.row-row.result.now r c.requires.low c.requires.high c.row-row.ensures here)
+    c.mac_under.ensures.keys ∙ ap (λ (x : Row). keys_after c.args.once c.args.keys.now c.args.plan.now.sending.row Outbound (traffic_key x.algorithm x.master (bytes_of c.args.plan.now.context))) (same_at c.args.table.now.rows c.args.plan.now.sending.row c.row-row.result.now r c.requires.low c.requires.high c.row-row.ensures here)
 
 pub returns-clause-kept : goal.returns-clause-kept
-returns-clause-kept g c = λ r here syn.
-    c.mac_under.ensures.kept syn ∙ ap (λ (x : Row). Some (traffic_key x.algorithm x.master (bytes_of c.args.plan.now.context))) (same_at c.args.table.now.rows c.args.plan.now.sending.row c.row-row.result.now r c.requires.low c.requires.high c.row-row.ensures here)
+returns-clause-kept g c = λ r here once.
+    c.mac_under.ensures.kept once ∙ ap (λ (x : Row). Some (traffic_key x.algorithm x.master (bytes_of c.args.plan.now.context))) (same_at c.args.table.now.rows c.args.plan.now.sending.row c.row-row.result.now r c.requires.low c.requires.high c.row-row.ensures here)
