@@ -1,25 +1,17 @@
 """Path MTU: a router between the ends has a link of 1400 and tells so by ICMP. The shim drops that (RFC 5925, 7.8), and the connection stalls, unless
-tcp_mtu_probing is set or the shim is told the MTU. Handed on less 20 it stalls too, since the kernel checks what the shim made against the lowered path MTU; it works
-where signed segments have a mark and a route of their own."""
+tcp_mtu_probing is set or the shim is told the MTU."""
 from lab import *
 T = {"tcp_mtu_probing": 1}
-OPEN = {"handed-on", "handed-on-mark", "handed-on-mark-v6"}
-VARIANTS = {"dropped": dict(works=False), "probing": dict(works=True, probing=1), "told": dict(works=True, more=["--mtu", "1400"]), "handed-on": dict(works=False, more=["--pmtu"]),
-            "handed-on-mark": dict(works=True, more=["--pmtu", "--mark", "0xa0"], mark=True), "handed-on-mark-v6": dict(works=True, more=["--pmtu", "--mark", "0xa0"], mark=True, family=6),
+VARIANTS = {"dropped": dict(works=False), "probing": dict(works=True, probing=1), "told": dict(works=True, more=["--mtu", "1400"]),
             "route": dict(works=False, route=True), "route-told": dict(works=True, route=True, more=["--mtu", "1380"])}
 
-def run(l, works, probing=0, more=(), mark=False, route=False):
+def run(l, works, probing=0, more=(), route=False):
     l.routed = True
     l.address = {"a": "10.9.1.1", "b": "10.9.2.2"} if l.family == 4 else {"a": "fd00:9:1::1", "b": "fd00:9:2::2"}
     l.build(sysctls={"net.ipv4.tcp_mtu_probing": probing})
     l.at("m", "ip link set to-b mtu 1400")
     if route: l.at("a", "ip route replace default via 10.9.1.254 mtu 1380")
     l.keys(Row("one", (7, 5)))
-    if mark:
-        f = [] if l.family == 4 else ["-6"]
-        l.rules("a", out="OUTPUT")
-        l.at("a", ["ip"] + f + ["rule", "add", "fwmark", "0xa0", "lookup", "100"])
-        l.at("a", ["ip"] + f + ["route", "add", "default", "via", "10.9.1.254" if l.family == 4 else "fd00:9:1::fe", "dev", "eth0", "table", "100"])
     l.shim("a", *more); l.shim("b")
     l.capture()
     c, d = l.pair()

@@ -1,6 +1,5 @@
 """Bulk transfer by iperf3 through two shims against plain: throughput, processor time per segment. queue-only has the queues and no keys (the shim hands all on)."""
 from lab import *
-OPEN = {"queue-only"}
 VARIANTS = {"plain": dict(algorithm=None), "plain-no-offload": dict(algorithm=None, offload=False), "queue-only": dict(algorithm="none"), "sha1": dict(algorithm="sha1"), "cmac": dict(algorithm="cmac"), "sha256": dict(algorithm="sha256"), "sha1-v6": dict(algorithm="sha1", family=6),
             "sha1-rollover": dict(algorithm="sha1", change=True), "sha1-lossy": dict(algorithm="sha1", wire="--delay 25 --loss 10 --seed 3"), "plain-lossy": dict(algorithm=None, wire="--delay 25 --loss 10 --seed 3"),
             "sha1-lossy-cubic": dict(algorithm="sha1", wire="--delay 25 --loss 10 --seed 3", control="cubic"), "plain-lossy-cubic": dict(algorithm=None, wire="--delay 25 --loss 10 --seed 3", control="cubic")}
