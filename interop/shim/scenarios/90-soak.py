@@ -2,6 +2,7 @@
 from lab import *
 import daemons
 ASKED = True
+LONG = {"hour"}
 VARIANTS = {"hour": dict(count=120_000, seconds=3600, changes=12), "minute": dict(count=2_000, seconds=60, changes=2)}
 LEAD = 3                                                    # seconds between the row's acceptance and its use
 
