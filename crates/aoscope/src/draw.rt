@@ -2,8 +2,8 @@
 use crate::arguments::{flag, key_file_if_any};
 use crate::halt::{Halt, end};
 use crate::inputs::{input, tables_at, write};
-use book_draw_svg::Form;
 use clap::{ArgMatches, Command};
+use page_draw_svg::Form;
 use scope_draw::{answer_draw, answer_draw_keys};
 use std::alloc::{AllocError, Global};
 

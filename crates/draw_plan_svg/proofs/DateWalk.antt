@@ -3,9 +3,9 @@ use Rattle.std.proofs.Common.{◌≡◌, ℕ, zero, suc, ◌+◌, ◌-◌, ◌<�
 use Rattle.std.proofs.lemmas.Bool.Decides.{nat_tests}
 use Rattle.std.proofs.lemmas.List.{append-nil}
 use Rattle.book_draw_plan.specs.declared.slice.Slice.{Slice}
-use Rattle.book_draw_plan_svg.specs.declared.unit.DateUnit.{DateUnit}
-use Rattle.book_draw_plan_svg.specs.Dates.{unit_step}
-use Rattle.book_draw_plan_svg.specs.PlanPictures.{dates_svg, time_svg}
+use Rattle.page_draw_plan_svg.specs.declared.unit.DateUnit.{DateUnit}
+use Rattle.page_draw_plan_svg.specs.Dates.{unit_step}
+use Rattle.page_draw_plan_svg.specs.PlanPictures.{dates_svg, time_svg}
 use Rattle.book_keys.specs.Lifetimes.{greatest_time}
 
 module _ (line : ℕ) (time : Slice) (unit : DateUnit) where

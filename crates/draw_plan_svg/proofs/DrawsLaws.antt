@@ -4,8 +4,8 @@ use Rattle.std.proofs.lemmas.List.{append-nil}
 use Rattle.book_draw_plan.specs.declared.bar.Bar.{Bar}
 use Rattle.book_draw_plan.specs.BarOrders.{plan_time}
 use Rattle.book_draw_plan.specs.Bars.{shown_bar}
-use Rattle.book_draw_plan_svg.specs.PlanLines.{PlanLine, Barred}
-use Rattle.book_draw_plan_svg.specs.PlanPictures.{bar_svg, line_svg, lines_svg}
+use Rattle.page_draw_plan_svg.specs.PlanLines.{PlanLine, Barred}
+use Rattle.page_draw_plan_svg.specs.PlanPictures.{bar_svg, line_svg, lines_svg}
 use Rattle.book_keys.specs.declared.plan.Plan.{Plan}
 use Rattle.book_plans.specs.declared.finding.Finding.{Finding}
 use Rattle.draw_plan.specs.declared.wrong.Connected.{Connected}

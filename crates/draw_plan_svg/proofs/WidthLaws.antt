@@ -1,7 +1,7 @@
 -- The longest name of one node more.
 use Rattle.std.proofs.Common.{◌≡◌, ℕ, suc, ◌+◌, ◌-◌, ◌<◌, List, ◌∷◌, length, drop, get_or, sym, ap, subst, ◌∙◌, arith, add-one}
 use Rattle.std.proofs.Math.Seq.{drop-cons}
-use Rattle.book_draw_plan_svg.specs.RowNames.{longest_name, longest_row}
+use Rattle.page_draw_plan_svg.specs.RowNames.{longest_name, longest_row}
 use Rattle.book_keys.specs.Rows.{Table}
 use Rattle.toml.specs.Data.{Members}
 

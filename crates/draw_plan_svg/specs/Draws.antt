@@ -3,8 +3,8 @@ use Rattle.std.specs.Prelude.{◌≡◌, ℕ, ◌+◌, ◌++◌, List, [], ◌�
 use Rattle.book_draw_plan.specs.declared.bar.Bar.{Bar}
 use Rattle.book_draw_plan.specs.declared.slice.Slice.{Slice}
 use Rattle.book_draw_plan.specs.Bars.{shown_bar}
-use Rattle.book_draw_plan_svg.specs.PlanLines as book
-use Rattle.book_draw_plan_svg.specs.PlanPictures.{bar_svg, lines_svg}
+use Rattle.page_draw_plan_svg.specs.PlanLines as book
+use Rattle.page_draw_plan_svg.specs.PlanPictures.{bar_svg, lines_svg}
 use Rattle.book_keys.specs.declared.plan.Plan.{Plan}
 use Rattle.book_plans.specs.declared.finding.Finding.{Finding}
 use Rattle.draw_plan.specs.declared.wrong.Connected.{Connected}

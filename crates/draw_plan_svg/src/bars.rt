@@ -1,9 +1,9 @@
 //! A bar with its words and its title.
 ghost use Rattle.std.specs.Prelude.{◌≡◌, ◌++◌, IfOk, OnOk, codes, option_map};
 ghost use Rattle.toml.specs.View.{table_view};
-ghost use Rattle.book_draw_plan_svg.specs.PlanPictures.{bar_svg, bar_title, bar_words, duty_class, edge_tag, edges_svg, fill_attribute, line_words, shown_svg, span_bar};
+ghost use Rattle.page_draw_plan_svg.specs.PlanPictures.{bar_svg, bar_title, bar_words, duty_class, edge_tag, edges_svg, fill_attribute, line_words, shown_svg, span_bar};
 ghost use Rattle.book_draw_plan.specs.Bars.{duty_id};
-ghost use Rattle.book_draw_plan_svg.specs.Spans.{bar_span};
+ghost use Rattle.page_draw_plan_svg.specs.Spans.{bar_span};
 ghost use Rattle.book_scope_plan.specs.FindingTexts.{text_if};
 ghost use Rattle.draw_plan.specs.Drawn.{shown_of};
 
@@ -12,9 +12,9 @@ use crate::places::{bars_height, push_line_words};
 use crate::spans::{bar_span, duty_lifetime, span_width, start_column};
 use ao_base::push_decimal;
 use book_draw_plan::{Duty, Slice};
-use book_svg::Point;
 use draw_plan::{ShownBar, duty_id, push_duty};
 use key_table::Lifetime;
+use page_svg::Point;
 use plan_texts::push_times;
 use std::alloc::{AllocError, Global};
 use svg_tags::{push_box, push_colour, push_titled};
@@ -84,7 +84,7 @@ fn push_right_if(
 }
 
 /// Triangles where a lifetime begins before the time or ends after it.
-#[tactic(auto, unfolding(book_draw_plan_svg::specs::PlanPictures::edges_svg))]
+#[tactic(auto, unfolding(page_draw_plan_svg::specs::PlanPictures::edges_svg))]
 fn push_edges(
     out: &mut Vec<u8>,
     height: u64,
@@ -125,7 +125,7 @@ fn push_span(
 }
 
 /// Whose a bar is.
-#[tactic(auto, unfolding(book_draw_plan_svg::specs::PlanPictures::bar_words))]
+#[tactic(auto, unfolding(page_draw_plan_svg::specs::PlanPictures::bar_words))]
 fn push_bar_words(out: &mut Vec<u8>, document: &Table, bar: &ShownBar) -> Result<(), AllocError>
     ensures { OnOk result (out.new.items ≡ out.old.items ++ bar_words (table_view document.now) (shown_of bar.now)) }
 {
@@ -134,7 +134,7 @@ fn push_bar_words(out: &mut Vec<u8>, document: &Table, bar: &ShownBar) -> Result
 }
 
 /// The title of a bar.
-#[tactic(auto, unfolding(book_draw_plan_svg::specs::PlanPictures::bar_title))]
+#[tactic(auto, unfolding(page_draw_plan_svg::specs::PlanPictures::bar_title))]
 fn bar_title(alloc: Global, document: &Table, bar: &ShownBar) -> Result<Vec<u8>, AllocError>
     ensures { IfOk result (λ text. text.items ≡ bar_title (table_view document.now) (shown_of bar.now)) }
 {
@@ -178,7 +178,7 @@ fn duty_class(duty: Duty) -> &'static [u8]
 }
 
 /// A bar with its words and its title, in the colour of its KeyID.
-#[tactic(auto, unfolding(book_draw_plan_svg::specs::PlanPictures::shown_svg))]
+#[tactic(auto, unfolding(page_draw_plan_svg::specs::PlanPictures::shown_svg))]
 fn push_shown(
     out: &mut Vec<u8>,
     document: &Table,

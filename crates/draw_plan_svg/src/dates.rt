@@ -1,11 +1,11 @@
 //! At which times a scale has dates.
 ghost use Rattle.std.specs.Prelude.{◌≡◌, ◌<◌, ◌≤◌, length};
-ghost use Rattle.book_draw_plan_svg.specs.Dates.{date_length, has_date, is_dated, is_first_day, is_half_year, is_new_year, is_tenth_day, unit_for, unit_step};
+ghost use Rattle.page_draw_plan_svg.specs.Dates.{date_length, has_date, is_dated, is_first_day, is_half_year, is_new_year, is_tenth_day, unit_for, unit_step};
 
-use book_draw_plan_svg::DateUnit;
+use page_draw_plan_svg::DateUnit;
 
 /// The unit for a time of so many seconds.
-#[tactic(auto, unfolding(book_draw_plan_svg::specs::Dates::unit_for))]
+#[tactic(auto, unfolding(page_draw_plan_svg::specs::Dates::unit_for))]
 pub(crate) fn unit_for(seconds: u64) -> DateUnit
     ensures { result ≡ unit_for seconds }
 {

@@ -1,12 +1,12 @@
 //! What stands around the lines of a picture.
 ghost use Rattle.std.specs.Prelude.{◌≡◌, ◌++◌, OnOk, codes, decimal};
 ghost use Rattle.book_draw_plan.specs.Bars.{summary_words};
-ghost use Rattle.book_draw_plan_svg.specs.PlanPictures.{picture_height, plan_head, plan_size, summary_svg};
-ghost use Rattle.book_svg.specs.Tags.{style_svg};
+ghost use Rattle.page_draw_plan_svg.specs.PlanPictures.{picture_height, plan_head, plan_size, summary_svg};
+ghost use Rattle.page_svg.specs.Tags.{style_svg};
 
 use ao_base::push_decimal;
-use book_svg::Point;
 use draw_plan::push_summary_words;
+use page_svg::Point;
 use std::alloc::AllocError;
 use svg_tags::push_words;
 
@@ -25,7 +25,7 @@ fn push_numbered(out: &mut Vec<u8>, piece: &[u8], number: u64) -> Result<(), All
 }
 
 /// How words and the page look, as in each picture.
-#[tactic(auto, unfolding(book_svg::specs::Tags::style_svg))]
+#[tactic(auto, unfolding(page_svg::specs::Tags::style_svg))]
 fn push_style(out: &mut Vec<u8>) -> Result<(), AllocError>
     ensures { OnOk result (out.new.items ≡ out.old.items ++ style_svg) }
 {
@@ -36,7 +36,7 @@ fn push_style(out: &mut Vec<u8>) -> Result<(), AllocError>
 }
 
 /// How wide and how high a picture is.
-#[tactic(auto, unfolding(book_draw_plan_svg::specs::PlanPictures::plan_size))]
+#[tactic(auto, unfolding(page_draw_plan_svg::specs::PlanPictures::plan_size))]
 fn push_size(out: &mut Vec<u8>, width: u64, height: u64) -> Result<(), AllocError>
     ensures { OnOk result (out.new.items ≡ out.old.items ++ plan_size width height) }
 {
@@ -51,7 +51,7 @@ fn push_size(out: &mut Vec<u8>, width: u64, height: u64) -> Result<(), AllocErro
     Ok(())
 }
 
-#[tactic(auto, unfolding(book_draw_plan_svg::specs::PlanPictures::plan_head))]
+#[tactic(auto, unfolding(page_draw_plan_svg::specs::PlanPictures::plan_head))]
 fn push_head(out: &mut Vec<u8>, width: u64, height: u64) -> Result<(), AllocError>
     ensures { OnOk result (out.new.items ≡ out.old.items ++ plan_head width height) }
 {
@@ -72,7 +72,7 @@ pub fn push_front(out: &mut Vec<u8>, width: u64, count: u32) -> Result<(), Alloc
 
 /// Puts behind `out` how many connections there are and with how many nothing is wrong, where there are two or
 /// more: it stands above the lines. An error only when out of memory.
-#[tactic(auto, unfolding(book_draw_plan_svg::specs::PlanPictures::summary_svg))]
+#[tactic(auto, unfolding(page_draw_plan_svg::specs::PlanPictures::summary_svg))]
 pub fn push_summary(out: &mut Vec<u8>, all: u32, good: u32) -> Result<(), AllocError>
     ensures { OnOk result (out.new.items ≡ out.old.items ++ summary_svg all good) }
 {

@@ -1,6 +1,6 @@
 //! The marks of what is wrong.
 ghost use Rattle.std.specs.Prelude.{◌≡◌, ◌++◌, IfOk, OnOk, codes, flat_map};
-ghost use Rattle.book_draw_plan_svg.specs.PlanPictures.{finding_svg, mark_svg, span_mark, wrong_svg};
+ghost use Rattle.page_draw_plan_svg.specs.PlanPictures.{finding_svg, mark_svg, span_mark, wrong_svg};
 ghost use Rattle.book_scope_plan.specs.FindingTexts.{times_text};
 ghost use Rattle.draw_plan_svg.specs.Draws.{judged_of};
 
@@ -8,8 +8,8 @@ use crate::places::{bars_height, push_line_words};
 use crate::spans::{finding_span, span_width, start_column};
 use book_draw_plan::Slice;
 use book_plans::Finding;
-use book_svg::Point;
 use draw_plan::Connected;
+use page_svg::Point;
 use plan_texts::push_times;
 use std::alloc::{AllocError, Global};
 use svg_tags::{push_box, push_titled};
@@ -25,7 +25,7 @@ fn mark_title(alloc: Global, slice: &Slice) -> Result<Vec<u8>, AllocError>
 }
 
 /// The mark of the seconds at which something is wrong.
-#[tactic(auto, unfolding(book_draw_plan_svg::specs::PlanPictures::mark_svg))]
+#[tactic(auto, unfolding(page_draw_plan_svg::specs::PlanPictures::mark_svg))]
 fn push_mark(out: &mut Vec<u8>, line: u32, time: &Slice, slice: &Slice) -> Result<(), AllocError>
     ensures { OnOk result (out.new.items ≡ out.old.items ++ mark_svg line time.now slice.now) }
 {
@@ -72,7 +72,7 @@ fn push_marks(
 }
 
 /// The marks of all that doesn't hold of a plan.
-#[tactic(auto, unfolding(book_draw_plan_svg::specs::PlanPictures::wrong_svg))]
+#[tactic(auto, unfolding(page_draw_plan_svg::specs::PlanPictures::wrong_svg))]
 pub(crate) fn push_wrong(
     out: &mut Vec<u8>,
     line: u32,

@@ -1,7 +1,7 @@
 //! What a row is called in a picture.
 ghost use Rattle.std.specs.Prelude.{◌≡◌, ◌++◌, IfOk, OnOk, option_map};
 ghost use Rattle.toml.specs.View.{table_view};
-ghost use Rattle.book_draw_plan_svg.specs.RowNames.{named_row, written_after, written_byte, written_name};
+ghost use Rattle.page_draw_plan_svg.specs.RowNames.{named_row, written_after, written_byte, written_name};
 
 use ao_base::push_decimal;
 use plan_texts::admin_name;
@@ -36,7 +36,7 @@ fn push_written(out: &mut Vec<u8>, text: &[u8]) -> Result<(), AllocError>
 }
 
 /// What the operator calls a row, where it is named.
-#[tactic(auto, unfolding(book_draw_plan_svg::specs::RowNames::written_name))]
+#[tactic(auto, unfolding(page_draw_plan_svg::specs::RowNames::written_name))]
 fn push_name(out: &mut Vec<u8>, name: Option<&str>) -> Result<(), AllocError>
     ensures { OnOk result (out.new.items ≡ out.old.items ++ written_name (option_map (λ s. s.now) name.entry)) }
 {
@@ -51,7 +51,7 @@ fn push_name(out: &mut Vec<u8>, name: Option<&str>) -> Result<(), AllocError>
 }
 
 /// The name of a node, the number of a row, and what the document calls it.
-#[tactic(auto, unfolding(book_draw_plan_svg::specs::RowNames::named_row))]
+#[tactic(auto, unfolding(page_draw_plan_svg::specs::RowNames::named_row))]
 pub(crate) fn push_named_row(
     out: &mut Vec<u8>,
     document: &Table,

@@ -2,8 +2,8 @@
 ghost use Rattle.std.specs.Prelude.{◌≡◌, ◌∷◌, ◌++◌, ◌+◌, ◌≤◌, IfOk, OnOk, length, option_map};
 ghost use Rattle.toml.specs.View.{table_view};
 ghost use Rattle.book_draw_plan.specs.BarOrders.{plan_time};
-ghost use Rattle.book_draw_plan_svg.specs.PlanLines.{both_lines, missing_lines, planned_lines, wrong_lines};
-ghost use Rattle.book_draw_plan_svg.specs.PlanLines.{Named as named};
+ghost use Rattle.page_draw_plan_svg.specs.PlanLines.{both_lines, missing_lines, planned_lines, wrong_lines};
+ghost use Rattle.page_draw_plan_svg.specs.PlanLines.{Named as named};
 ghost use Rattle.draw_plan_svg.specs.Draws.{Draws, bars_svg, judged_of};
 
 use crate::bars::push_bar;

@@ -1,8 +1,8 @@
 //! The words of a line.
 ghost use Rattle.std.specs.Prelude.{◌≡◌, ◌≤◌, ◌++◌, OnOk};
-ghost use Rattle.book_draw_plan_svg.specs.PlanPictures.{bars_height, line_words, words_height};
+ghost use Rattle.page_draw_plan_svg.specs.PlanPictures.{bars_height, line_words, words_height};
 
-use book_svg::Point;
+use page_svg::Point;
 use std::alloc::AllocError;
 use svg_tags::push_words;
 

@@ -1,14 +1,14 @@
 //! The time that is drawn, and its dates.
 ghost use Rattle.std.specs.Prelude.{◌≡◌, ◌≤◌, ◌++◌, OnOk, length};
-ghost use Rattle.book_draw_plan_svg.specs.PlanPictures.{date_svg, dated_svg, dates_svg, scale_svg, step_before, step_count, tick_svg, time_svg};
+ghost use Rattle.page_draw_plan_svg.specs.PlanPictures.{date_svg, dated_svg, dates_svg, scale_svg, step_before, step_count, tick_svg, time_svg};
 
 use crate::dates::{date_length, is_dated, unit_for, unit_step};
 use crate::places::{bars_height, push_line_words};
 use crate::spans::start_column;
 use book_draw_plan::Slice;
-use book_draw_plan_svg::DateUnit;
-use book_svg::Point;
 use key_table::LATEST;
+use page_draw_plan_svg::DateUnit;
+use page_svg::Point;
 use plan_texts::push_times;
 use scope_texts::push_instant;
 use std::alloc::AllocError;
@@ -31,7 +31,7 @@ fn push_tick(out: &mut Vec<u8>, line: u32, column: u64) -> Result<(), AllocError
 }
 
 /// A stroke at this column, and this date beside it, where that has room.
-#[tactic(auto, unfolding(book_draw_plan_svg::specs::PlanPictures::date_svg))]
+#[tactic(auto, unfolding(page_draw_plan_svg::specs::PlanPictures::date_svg))]
 fn push_date(out: &mut Vec<u8>, line: u32, column: u64, date: &[u8]) -> Result<(), AllocError>
     requires column { column ≤ 780 }
     requires short { length date.now ≤ 16 }
@@ -106,7 +106,7 @@ fn step_before(unit: DateUnit, time: u64) -> u64
 }
 
 /// The words of a time, and its dates by this unit.
-#[tactic(auto, unfolding(book_draw_plan_svg::specs::PlanPictures::dated_svg))]
+#[tactic(auto, unfolding(page_draw_plan_svg::specs::PlanPictures::dated_svg))]
 fn push_dated(out: &mut Vec<u8>, line: u32, time: &Slice, unit: DateUnit) -> Result<(), AllocError>
     ensures { OnOk result (out.new.items ≡ out.old.items ++ dated_svg line time.now unit) }
 {

@@ -1,6 +1,6 @@
 //! Where a time stands in the picture, and which seconds a bar shows.
 ghost use Rattle.std.specs.Prelude.{◌≡◌, ◌≤◌, option_map};
-ghost use Rattle.book_draw_plan_svg.specs.Spans.{bar_span, common_span, does_for, duty_lifetime, finding_span, sending_span, span_width, time_column};
+ghost use Rattle.page_draw_plan_svg.specs.Spans.{bar_span, common_span, does_for, duty_lifetime, finding_span, sending_span, span_width, time_column};
 ghost use Rattle.book_draw_plan.specs.Bars.{pair_at};
 ghost use Rattle.book_scope_plan.specs.CalendarTexts.{row_numbered, side_of};
 
@@ -12,7 +12,7 @@ use key_table::{Lifetime, Row};
 use plan_texts::row_numbered;
 
 /// The column of a moment, in seconds since 1970, of a time that is drawn.
-#[tactic(auto, unfolding(book_draw_plan_svg::specs::Spans::time_column))]
+#[tactic(auto, unfolding(page_draw_plan_svg::specs::Spans::time_column))]
 fn time_column(time: &Slice, moment: u128) -> u64
     requires { moment ≤ 18446744073709551616 }
     ensures value { result ≡ time_column time.now moment }
@@ -33,7 +33,7 @@ pub(crate) fn start_column(time: &Slice, first: u64) -> u64
 }
 
 /// How wide some of the seconds of a time are drawn.
-#[tactic(auto, unfolding(book_draw_plan_svg::specs::Spans::span_width))]
+#[tactic(auto, unfolding(page_draw_plan_svg::specs::Spans::span_width))]
 pub(crate) fn span_width(time: &Slice, span: &Slice) -> u64
     ensures value { result ≡ span_width time.now span.now }
     ensures range { result ≤ 780 }

@@ -1,7 +1,7 @@
 //! How wide a picture is.
 ghost use Rattle.std.specs.Prelude.{◌≡◌, ◌≤◌, IfOk, length};
 ghost use Rattle.toml.specs.View.{table_view};
-ghost use Rattle.book_draw_plan_svg.specs.RowNames.{longest_name, longest_row, picture_width};
+ghost use Rattle.page_draw_plan_svg.specs.RowNames.{longest_name, longest_row, picture_width};
 ghost use Rattle.book_keys.specs.Rows.{row_limit};
 
 use crate::names::named_row;
@@ -54,7 +54,7 @@ fn longest_name(alloc: Global, document: &toml::Table, tables: &Tables) -> Resul
 
 /// How wide the picture of plans of these tables of a document is: 800, or so wide that each name of a row has
 /// room with what stands after it. An error only when out of memory.
-#[tactic(auto, unfolding(book_draw_plan_svg::specs::RowNames::picture_width))]
+#[tactic(auto, unfolding(page_draw_plan_svg::specs::RowNames::picture_width))]
 pub fn picture_width(
     alloc: Global,
     document: &toml::Table,

@@ -1,7 +1,7 @@
 //! The picture of a session.
 ghost use Rattle.std.specs.Prelude.{◌≡◌, ◌≤◌, ◌++◌, IfOk, OnOk, flat_map, length};
 ghost use Rattle.book_draw_session.specs.Times.{left_runs};
-ghost use Rattle.book_draw_session_svg.specs.SessionPictures.{session_line_svg, session_lines_picture, session_picture, session_rows};
+ghost use Rattle.page_draw_session_svg.specs.SessionPictures.{session_line_svg, session_lines_picture, session_picture, session_rows};
 
 use crate::fold::session_lines;
 use crate::heads::push_front;
@@ -30,7 +30,7 @@ fn push_elements(
 }
 
 /// The picture of lines between these ends, whose segments have these keys.
-#[tactic(auto, unfolding(book_draw_session_svg::specs::SessionPictures::session_lines_picture))]
+#[tactic(auto, unfolding(page_draw_session_svg::specs::SessionPictures::session_lines_picture))]
 fn print_lines(
     alloc: Global,
     ends: &SessionEnds,

@@ -2,9 +2,9 @@
 use Rattle.std.proofs.Common.{◌≡◌, ℕ, ◌+◌, ◌==◌, Bool, true, false, List, [], ◌∷◌, Option, Some, None, get_or, length, if◌then◌else◌, refl, sym, ap, ◌∙◌, arith}
 use Rattle.std.specs.Option.{option_or}
 use Rattle.book_draw.specs.declared.rung.Rung.{Rung}
-use Rattle.book_draw_svg.specs.declared.placed.Placed.{Placed}
-use Rattle.book_draw_svg.specs.declared.placed.Start.{Start}
-use Rattle.book_draw_svg.specs.Placements.{label_of_rung, placed_at, start_in, arrow_start, start_of_rung, stroke_of_rung}
+use Rattle.page_draw_svg.specs.declared.placed.Placed.{Placed}
+use Rattle.page_draw_svg.specs.declared.placed.Start.{Start}
+use Rattle.page_draw_svg.specs.Placements.{label_of_rung, placed_at, start_in, arrow_start, start_of_rung, stroke_of_rung}
 use Rattle.draw_ladder.specs.Sights.{Saw}
 use Rattle.draw_svg.specs.declared.past.Past.{Past}
 use Rattle.draw_svg.specs.Kept.{Keeps}

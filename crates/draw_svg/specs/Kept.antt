@@ -1,7 +1,7 @@
 -- What is kept of the rungs above.
 use Rattle.std.specs.Prelude.{◌≡◌, ℕ, List, None, get_or, length}
 use Rattle.book_draw.specs.declared.rung.Rung.{Rung}
-use Rattle.book_draw_svg.specs.Placements.{arrow_start}
+use Rattle.page_draw_svg.specs.Placements.{arrow_start}
 use Rattle.draw_ladder.specs.Sights.{Saw}
 use Rattle.draw_svg.specs.declared.past.Past.{Past}
 

@@ -1,7 +1,7 @@
 //! The elements of rungs.
 ghost use Rattle.std.specs.Prelude.{◌≡◌, ◌++◌, IfOk, OnOk, Some, codes, option_map};
-ghost use Rattle.book_draw_svg.specs.Pictures.{arrow_svg, came_label, dash_attribute, element_svg, is_whole, label_svg, leaving_svg, margin_svg, reaching_svg, words_beside};
-ghost use Rattle.book_svg.specs.Tags.{colour_text, titled_tag};
+ghost use Rattle.page_draw_svg.specs.Pictures.{arrow_svg, came_label, dash_attribute, element_svg, is_whole, label_svg, leaving_svg, margin_svg, reaching_svg, words_beside};
+ghost use Rattle.page_svg.specs.Tags.{colour_text, titled_tag};
 
 use crate::positions::{
     end_column, is_at_once, label_column, label_height, lost_column, lost_height, margin_column,
@@ -9,10 +9,10 @@ use crate::positions::{
 };
 use book_base::End;
 use book_draw::Rung;
-use book_draw_svg::{Placed, Start, Stroke};
-use book_svg::Point;
 use both_ends::is_same_end;
 use draw_ladder::{push_margin, rung_end};
+use page_draw_svg::{Placed, Start, Stroke};
+use page_svg::Point;
 use std::alloc::{AllocError, Global};
 use svg_tags::{push_dot, push_line, push_titled, push_words};
 

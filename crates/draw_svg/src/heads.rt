@@ -1,17 +1,17 @@
 //! What stands in front of the rungs of a picture.
 ghost use Rattle.std.specs.Prelude.{◌≡◌, ◌++◌, OnOk, codes};
-ghost use Rattle.book_draw_svg.specs.Pictures.{dash_attribute, lost_tip_svg, sample_svg, samples_svg, tip_svg, tips_svg, upright_svg};
+ghost use Rattle.page_draw_svg.specs.Pictures.{dash_attribute, lost_tip_svg, sample_svg, samples_svg, tip_svg, tips_svg, upright_svg};
 
 use crate::arrows::dash_attribute;
 use crate::positions::end_column;
 use book_base::End;
-use book_draw_svg::Stroke;
-use book_svg::Point;
+use page_draw_svg::Stroke;
+use page_svg::Point;
 use std::alloc::AllocError;
 use svg_tags::{push_line, push_words};
 
 /// The tip of an arrow that comes.
-#[tactic(auto, unfolding(book_draw_svg::specs::Pictures::tip_svg))]
+#[tactic(auto, unfolding(page_draw_svg::specs::Pictures::tip_svg))]
 fn push_tip(out: &mut Vec<u8>) -> Result<(), AllocError>
     ensures { OnOk result (out.new.items ≡ out.old.items ++ tip_svg) }
 {
@@ -26,7 +26,7 @@ fn push_tip(out: &mut Vec<u8>) -> Result<(), AllocError>
 }
 
 /// The tip of an arrow that never comes.
-#[tactic(auto, unfolding(book_draw_svg::specs::Pictures::lost_tip_svg))]
+#[tactic(auto, unfolding(page_draw_svg::specs::Pictures::lost_tip_svg))]
 fn push_lost_tip(out: &mut Vec<u8>) -> Result<(), AllocError>
     ensures { OnOk result (out.new.items ≡ out.old.items ++ lost_tip_svg) }
 {
@@ -41,7 +41,7 @@ fn push_lost_tip(out: &mut Vec<u8>) -> Result<(), AllocError>
 }
 
 /// The tips of arrows.
-#[tactic(auto, unfolding(book_draw_svg::specs::Pictures::tips_svg))]
+#[tactic(auto, unfolding(page_draw_svg::specs::Pictures::tips_svg))]
 pub(crate) fn push_tips(out: &mut Vec<u8>) -> Result<(), AllocError>
     ensures { OnOk result (out.new.items ≡ out.old.items ++ tips_svg) }
 {
@@ -61,7 +61,7 @@ fn push_black(out: &mut Vec<u8>, stroke: Stroke) -> Result<(), AllocError>
 }
 
 /// The sample of a stroke, in this column, with its name.
-#[tactic(auto, unfolding(book_draw_svg::specs::Pictures::sample_svg))]
+#[tactic(auto, unfolding(page_draw_svg::specs::Pictures::sample_svg))]
 fn push_sample(
     out: &mut Vec<u8>,
     column: u16,
@@ -80,7 +80,7 @@ fn push_sample(
 }
 
 /// The strokes and their names.
-#[tactic(auto, unfolding(book_draw_svg::specs::Pictures::samples_svg))]
+#[tactic(auto, unfolding(page_draw_svg::specs::Pictures::samples_svg))]
 pub(crate) fn push_samples(out: &mut Vec<u8>) -> Result<(), AllocError>
     ensures { OnOk result (out.new.items ≡ out.old.items ++ samples_svg) }
 {
@@ -93,7 +93,7 @@ pub(crate) fn push_samples(out: &mut Vec<u8>) -> Result<(), AllocError>
 }
 
 /// The upright stroke of an end, of this height, and its name.
-#[tactic(auto, unfolding(book_draw_svg::specs::Pictures::upright_svg))]
+#[tactic(auto, unfolding(page_draw_svg::specs::Pictures::upright_svg))]
 pub(crate) fn push_upright(
     out: &mut Vec<u8>,
     height: u64,

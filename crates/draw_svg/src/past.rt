@@ -2,12 +2,12 @@
 ghost use Rattle.std.specs.Prelude.{◌≡◌, ◌∷◌, ◌==◌, ◌<◌, ◌+◌, Some, None, ℕ, List, [], OnOk, get_or, length, if◌then◌else◌};
 ghost use Rattle.std.specs.Option.{option_or};
 ghost use Rattle.book_draw.specs.declared.rung.Rung.{Rung as Step};
-ghost use Rattle.book_draw_svg.specs.Placements.{start_at, start_in, arrow_start, start_of_brought};
+ghost use Rattle.page_draw_svg.specs.Placements.{start_at, start_in, arrow_start, start_of_brought};
 
 use book_base::End;
 use book_draw::{Brought, Rung, Sketch};
-use book_draw_svg::Start;
 use draw_ladder::Seen;
+use page_draw_svg::Start;
 use std::alloc::{AllocError, Global};
 
 /// What is kept of rungs.

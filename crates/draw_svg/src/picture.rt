@@ -1,8 +1,8 @@
 //! The picture of a ladder.
 ghost use Rattle.std.specs.Prelude.{◌≡◌, ◌≤◌, ◌++◌, List, [], IfOk, OnOk, flat_map, length};
 ghost use Rattle.book_draw.specs.declared.rung.Rung.{Rung as Step};
-ghost use Rattle.book_draw_svg.specs.Pictures.{drawn_as, element_svg, front_svg, svg_text, uprights_svg};
-ghost use Rattle.book_draw_svg.specs.Placements.{placements_from};
+ghost use Rattle.page_draw_svg.specs.Pictures.{drawn_as, element_svg, front_svg, svg_text, uprights_svg};
+ghost use Rattle.page_draw_svg.specs.Placements.{placements_from};
 ghost use Rattle.draw_ladder.specs.Sights.{Saw};
 
 use crate::arrows::push_element;
@@ -12,8 +12,8 @@ use crate::places::placed_at;
 use crate::positions::row_height;
 use book_base::{Bytes, End};
 use book_draw::Rung;
-use book_draw_svg::Form;
 use draw_ladder::{Seen, print_ladder};
+use page_draw_svg::Form;
 use std::alloc::{AllocError, Global};
 use svg_tags::push_head;
 
@@ -45,7 +45,7 @@ fn push_uprights(out: &mut Vec<u8>, height: u64) -> Result<(), AllocError>
 }
 
 /// What stands in front of the elements of so many rungs.
-#[tactic(auto, unfolding(book_draw_svg::specs::Pictures::front_svg))]
+#[tactic(auto, unfolding(page_draw_svg::specs::Pictures::front_svg))]
 fn push_front(out: &mut Vec<u8>, count: u32) -> Result<(), AllocError>
     ensures { OnOk result (out.new.items ≡ out.old.items ++ front_svg count) }
 {
@@ -57,7 +57,7 @@ fn push_front(out: &mut Vec<u8>, count: u32) -> Result<(), AllocError>
 }
 
 /// The picture of the ladder of these rungs, at most 100,000, in SVG. An error only for want of memory.
-#[tactic(auto, unfolding(book_draw_svg::specs::Pictures::svg_text))]
+#[tactic(auto, unfolding(page_draw_svg::specs::Pictures::svg_text))]
 pub fn print_svg(alloc: Global, rungs: &[Rung]) -> Result<Bytes, AllocError>
     requires { length rungs.now ≤ 100000 }
     ensures { IfOk result (λ text. text ≡ svg_text rungs.now) }

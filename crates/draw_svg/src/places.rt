@@ -1,15 +1,15 @@
 //! A rung in its place.
 ghost use Rattle.std.specs.Prelude.{◌≡◌, ℕ, List, IfOk};
 ghost use Rattle.book_draw.specs.declared.rung.Rung.{Rung as Step};
-ghost use Rattle.book_draw_svg.specs.Placements.{label_of_rung, placed_at, start_of_rung, stroke_of_brought, stroke_of_rung};
+ghost use Rattle.page_draw_svg.specs.Placements.{label_of_rung, placed_at, start_of_rung, stroke_of_brought, stroke_of_rung};
 ghost use Rattle.draw_ladder.specs.Sights.{Saw};
 ghost use Rattle.draw_svg.specs.Kept.{Keeps};
 
 use crate::past::Past;
 use book_base::Bytes;
 use book_draw::{Brought, Rung};
-use book_draw_svg::{Placed, Start, Stroke};
 use draw_ladder::{Seen, push_arrival, push_sketch, rung_comes};
+use page_draw_svg::{Placed, Start, Stroke};
 use std::alloc::{AllocError, Global};
 
 /// The stroke of what came.

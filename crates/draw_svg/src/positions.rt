@@ -1,10 +1,10 @@
 //! Where things stand in a picture.
 ghost use Rattle.std.specs.Prelude.{◌≡◌};
-ghost use Rattle.book_draw_svg.specs.Pictures.{end_column, is_at_once, label_column, label_height, lost_column, lost_height, margin_column, margin_height, row_height, start_column, start_row};
+ghost use Rattle.page_draw_svg.specs.Pictures.{end_column, is_at_once, label_column, label_height, lost_column, lost_height, margin_column, margin_height, row_height, start_column, start_row};
 
 use book_base::End;
-use book_draw_svg::Start;
 use both_ends::is_same_end;
+use page_draw_svg::Start;
 
 /// The height of a row.
 pub(crate) fn row_height(row: u32) -> u64

@@ -4,8 +4,8 @@ use Rattle.book_answer.specs.Answers.{Answer, done}
 use Rattle.book_cmd_link.specs.declared.script.Script.{Script}
 use Rattle.book_cmd_link.specs.LinkFiles.{shared_by}
 use Rattle.book_draw.specs.Rungs.{rungs}
-use Rattle.book_draw_svg.specs.declared.placed.Form.{Form}
-use Rattle.book_draw_svg.specs.Pictures.{drawn_as}
+use Rattle.page_draw_svg.specs.declared.placed.Form.{Form}
+use Rattle.page_draw_svg.specs.Pictures.{drawn_as}
 use Rattle.book_keys.specs.Rows.{Table}
 use Rattle.book_link.specs.declared.event.Event.{Event}
 use Rattle.book_link.specs.Worlds.{Setup, setup_of}

@@ -11,7 +11,6 @@ ghost use Rattle.link_world.specs.Events.{CanHappen};
 ghost use Rattle.link_world.specs.Stands.{setup_of};
 ghost use Rattle.scope_draw.specs.Forms.{drawing, drawn, drawn_by_shared};
 
-use book_draw_svg::Form;
 use book_link::Event;
 use command_report::{Report, Stop};
 use draw_rungs::rungs_of;
@@ -19,6 +18,7 @@ use draw_svg::draw_rungs_as;
 use key_table::Tables;
 use link_script::{KeysFrom, Script, read_script};
 use link_world::Setup;
+use page_draw_svg::Form;
 use std::alloc::{AllocError, Global};
 
 /// The ladder of the run of these events, in the form.

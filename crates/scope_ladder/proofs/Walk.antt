@@ -17,9 +17,9 @@ use Rattle.book_draw_session.specs.declared.span.LeftOut.{LeftOut}
 use Rattle.book_draw_session.specs.Ladders.{ladder_between, left_text}
 use Rattle.book_draw_session.specs.Rungs.{session_rungs_from, rungs_between, rungs_in, rungs_of_session, session_at, sessions_drawn}
 use Rattle.book_draw_session.specs.Times.{left_out}
-use Rattle.book_draw_session_svg.specs.declared.form.LadderForm.{LadderForm}
-use Rattle.book_draw_session_svg.specs.declared.form.LadderForm.TheVariants.{Text, Picture}
-use Rattle.book_draw_session_svg.specs.SessionPictures.{picture_within, session_as}
+use Rattle.page_draw_session_svg.specs.declared.form.LadderForm.{LadderForm}
+use Rattle.page_draw_session_svg.specs.declared.form.LadderForm.TheVariants.{Text, Picture}
+use Rattle.page_draw_session_svg.specs.SessionPictures.{picture_within, session_as}
 use Rattle.book_sessions.specs.Listening.{Listening, listening_behind}
 use Rattle.capture_stream.specs.declared.reader.CaptureStep.TheVariants as step
 use Rattle.capture_stream.specs.declared.reader.CaptureHalt.TheVariants as stream_halt

@@ -11,8 +11,8 @@ use Rattle.book_draw_session.specs.Folds.{counted_on}
 use Rattle.book_draw_session.specs.Ladders.{session_ladder, session_rung_text}
 use Rattle.book_draw_session.specs.Rungs.{rungs_of_session}
 use Rattle.book_draw_session.specs.Times.{rungs_counted, is_early, is_late, is_timely, left_out, rungs_within}
-use Rattle.book_draw_session_svg.specs.declared.form.LadderForm.{LadderForm}
-use Rattle.book_draw_session_svg.specs.declared.form.LadderForm.TheVariants.{Text, Picture}
+use Rattle.page_draw_session_svg.specs.declared.form.LadderForm.{LadderForm}
+use Rattle.page_draw_session_svg.specs.declared.form.LadderForm.TheVariants.{Text, Picture}
 use Rattle.scope_ladder.specs.declared.drawer.Drawer.{Drawer}
 use Rattle.scope_ladder.specs.declared.search.Shown.{Shown}
 use Rattle.scope_ladder.specs.declared.search.Shown.TheVariants.{Nothing, First, Later}

@@ -16,8 +16,8 @@ use Rattle.book_draw_session.specs.declared.rung.SessionRung.{SessionRung}
 use Rattle.book_draw_session.specs.declared.span.DrawnTime.{DrawnTime}
 use Rattle.book_draw_session.specs.Rungs.{drawn_by, rung_before, rungs_in, rungs_of_session, seen_at, session_at, sessions_drawn}
 use Rattle.book_draw_session.specs.Times.{left_out}
-use Rattle.book_draw_session_svg.specs.declared.form.LadderForm.{LadderForm}
-use Rattle.book_draw_session_svg.specs.SessionPictures.{session_as}
+use Rattle.page_draw_session_svg.specs.declared.form.LadderForm.{LadderForm}
+use Rattle.page_draw_session_svg.specs.SessionPictures.{session_as}
 use Rattle.capture_listener.specs.Listeners.{Knows}
 use Rattle.scope_ladder.specs.declared.draw.LadderRequest.{LadderRequest}
 use Rattle.scope_ladder.specs.declared.drawer.Drawer.{Drawer}

@@ -9,9 +9,9 @@ use Rattle.book_draw_session.specs.Folds.{counted_on}
 use Rattle.book_draw_session.specs.Ladders.{ends_text, left_text, session_ladder, session_rung_text}
 use Rattle.book_draw_session.specs.Rungs.{rungs_of_session, session_at, sessions_drawn}
 use Rattle.book_draw_session.specs.Times.{is_early, is_late, is_timely, left_runs, rungs_within}
-use Rattle.book_draw_session_svg.specs.declared.form.LadderForm.{LadderForm}
-use Rattle.book_draw_session_svg.specs.declared.form.LadderForm.TheVariants.{Text, Picture}
-use Rattle.book_draw_session_svg.specs.SessionPictures.{picture_between}
+use Rattle.page_draw_session_svg.specs.declared.form.LadderForm.{LadderForm}
+use Rattle.page_draw_session_svg.specs.declared.form.LadderForm.TheVariants.{Text, Picture}
+use Rattle.page_draw_session_svg.specs.SessionPictures.{picture_between}
 use Rattle.scope_ladder.specs.declared.draw.LadderHalt.{LadderHalt}
 use Rattle.scope_ladder.specs.declared.draw.LadderHalt.TheVariants.{NoSession}
 use Rattle.scope_ladder.specs.declared.search.Search.{Search}

@@ -3,7 +3,7 @@ ghost use Rattle.std.specs.Prelude.{◌≡◌, IfOk, List};
 ghost use Rattle.ao_base.specs.Outside.{Side};
 ghost use Rattle.book_draw_session.specs.Times.{left_runs};
 ghost use Rattle.book_draw_session.specs.declared.rung.SessionRung.{SessionRung as Segment};
-ghost use Rattle.book_draw_session_svg.specs.SessionPictures.{picture_between};
+ghost use Rattle.page_draw_session_svg.specs.SessionPictures.{picture_between};
 ghost use Rattle.scope_ladder.specs.Drawing.{last_text};
 ghost use Rattle.scope_ladder.specs.Searches.{Seeks, Tells};
 ghost use Rattle.scope_ladder.specs.Writing.{WritesLast, WritesText};
@@ -12,8 +12,8 @@ use crate::draw::{LadderHalt, TextHalt};
 use crate::drawer::Drawer;
 use crate::search::Search;
 use ao_base::{Failed, Sink, write_all};
-use book_draw_session_svg::LadderForm;
 use draw_session_rungs::{print_left, print_session_svg};
+use page_draw_session_svg::LadderForm;
 use std::alloc::{AllocError, Global};
 
 /// Writes this text.

@@ -6,8 +6,8 @@ ghost use Rattle.scope_ladder.specs.Searches.{kept_as, left_and, left_with, show
 
 use crate::search::Shown;
 use book_draw_session::{DrawnTime, LeftOut, SessionEnds, SessionRung};
-use book_draw_session_svg::LadderForm;
 use draw_session_rungs::{push_ends, push_rung};
+use page_draw_session_svg::LadderForm;
 use std::alloc::AllocError;
 
 /// How many nanoseconds a second has.

@@ -12,8 +12,8 @@ use Rattle.book_draw_plan.specs.declared.form.PlanForm.{PlanForm}
 use Rattle.book_draw_plan.specs.declared.form.PlanForm.TheVariants.{Bars, Lines as FormOfLines, Picture}
 use Rattle.std.specs.Prelude.{flat_map}
 use Rattle.book_draw_plan.specs.Bars.{drawing_text, drawings_text, good_plans, summary_line}
-use Rattle.book_draw_plan_svg.specs.PlanLines.{drawing_lines, drawings_lines}
-use Rattle.book_draw_plan_svg.specs.PlanPictures.{lines_svg}
+use Rattle.page_draw_plan_svg.specs.PlanLines.{drawing_lines, drawings_lines}
+use Rattle.page_draw_plan_svg.specs.PlanPictures.{lines_svg}
 use Rattle.draw_plan_svg.proofs.DrawsLaws.{lines_append}
 use Rattle.book_keys.specs.declared.plan.Plan.{Plan}
 use Rattle.book_answer.specs.Answers.{done, if_read}

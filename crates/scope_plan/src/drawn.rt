@@ -1,7 +1,7 @@
 //! What is said of a connection in a form: its lines, its bars, or its part of a picture.
 ghost use Rattle.std.specs.Prelude.{◌≡◌, ◌++◌, ◌+◌, ◌≤◌, ◌&&◌, OnOk, IfOk, is_some, option_map};
 ghost use Rattle.book_draw_plan.specs.Bars.{both_bars, drawing_text, nodes_bars};
-ghost use Rattle.book_draw_plan_svg.specs.PlanLines.{drawing_lines};
+ghost use Rattle.page_draw_plan_svg.specs.PlanLines.{drawing_lines};
 ghost use Rattle.book_scope_plan.specs.PlanTexts.{connection_line, has_none, is_good_plan, missing_text, node_with, plan_findings};
 ghost use Rattle.scope_plan.specs.KeyFiles.{key_file_of};
 ghost use Rattle.draw_plan_svg.specs.Draws.{Draws};
@@ -79,7 +79,7 @@ fn is_good(a: Option<&Table>, b: Option<&Table>, findings: &[Finding]) -> bool
 }
 
 /// The lines of a connection in a picture, from this one on.
-#[tactic(auto, unfolding(book_draw_plan_svg::specs::PlanLines::drawing_lines, book_scope_plan::specs::PlanTexts::is_good_plan))]
+#[tactic(auto, unfolding(page_draw_plan_svg::specs::PlanLines::drawing_lines, book_scope_plan::specs::PlanTexts::is_good_plan))]
 fn push_pictured(
     alloc: Global,
     out: &mut Vec<u8>,

@@ -20,8 +20,8 @@ use Rattle.book_keys.specs.Reading.{Fails}
 use Rattle.book_keys.specs.Rows.{Table}
 use Rattle.book_scope_plan.specs.AdminNames.{KeyFile}
 use Rattle.book_sessions.specs.Sessions.{SessionTable}
-use Rattle.book_sessions_json.specs.declared.form.TableRequest.{TableRequest}
-use Rattle.book_sessions_json.specs.TableSeries.{Series, early_text, last_text, series_keys, series_text}
+use Rattle.page_sessions_json.specs.declared.form.TableRequest.{TableRequest}
+use Rattle.page_sessions_json.specs.TableSeries.{Series, early_text, last_text, series_keys, series_text}
 use Rattle.scope_sessions.specs.declared.count.Counted.{Counted}
 use Rattle.scope_sessions.specs.declared.count.CountHalt.TheVariants as count_halt
 use Rattle.scope_sessions.specs.declared.halt.JudgingHalt.{JudgingHalt}

@@ -14,8 +14,8 @@ use Rattle.book_sessions.specs.KeyLines.{asks_still, last_of}
 use Rattle.book_sessions.specs.Peers.{peers_told}
 use Rattle.book_sessions.specs.Retiring.{Evidence, carries_row, may_go}
 use Rattle.book_sessions.specs.Sessions.{SessionTable}
-use Rattle.book_sessions_json.specs.Json.{json_array, json_comma, json_items, json_member, json_object}
-use Rattle.book_sessions_json.specs.SessionJson.{first_json, key_json, last_json, may_go_json, packets_json, passed_json, rows_json, use_json}
+use Rattle.page_sessions_json.specs.Json.{json_array, json_comma, json_items, json_member, json_object}
+use Rattle.page_sessions_json.specs.SessionJson.{first_json, key_json, last_json, may_go_json, packets_json, passed_json, rows_json, use_json}
 use Rattle.scope_sessions.specs.JsonParts.{asked_members, id_members, node_members, sender_members, span_members, told_members}
 
 abbrev none : {A : Type 0} → List A → Bool

@@ -7,8 +7,8 @@ use Rattle.book_sessions.specs.Foreign.{foreign_sessions, listed_sessions}
 use Rattle.book_sessions.specs.Retiring.{evidence_of}
 use Rattle.book_sessions.specs.Sessions.{SessionTable}
 use Rattle.book_sessions.specs.TableTexts.{has_amiss}
-use Rattle.book_sessions_json.specs.Json.{json_array, json_bool, json_member, json_name, json_object}
-use Rattle.book_sessions_json.specs.SessionJson.{foreign_json, keys_json, packets_json, session_json, sessions_json}
+use Rattle.page_sessions_json.specs.Json.{json_array, json_bool, json_member, json_name, json_object}
+use Rattle.page_sessions_json.specs.SessionJson.{foreign_json, keys_json, packets_json, session_json, sessions_json}
 
 body : (p f s k a : List ℕ) → (((123 ∷ p) ++ (44 ∷ f ++ (44 ∷ s))) ++ (44 ∷ k)) ++ (44 ∷ a ++ 125 ∷ 10 ∷ []) ≡ json_object (p ∷ f ∷ s ∷ k ∷ a ∷ []) ++ 10 ∷ []
 body p f s k a =

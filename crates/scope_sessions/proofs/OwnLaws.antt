@@ -4,7 +4,7 @@ use Rattle.std.specs.Prelude.{cond, filter, map, nat_lt}
 use Rattle.std.specs.List.{find, flat_map, list_any, AllByRecursion}
 use Rattle.book_sessions.specs.declared.uses.KeyUse.{KeyUse}
 use Rattle.book_sessions.specs.SessionTexts.{heading_line, is_of_session, lines_of_session, opens_session, use_line, use_line_in}
-use Rattle.book_sessions_json.specs.SessionJson.{heading_json, session_json, use_json}
+use Rattle.page_sessions_json.specs.SessionJson.{heading_json, session_json, use_json}
 
 -- ---- by those that pass a test
 

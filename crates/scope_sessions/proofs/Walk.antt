@@ -11,7 +11,7 @@ use Rattle.book_captures.specs.Captures.{CapturePacket}
 use Rattle.book_sessions.specs.Laps.{Judging}
 use Rattle.book_sessions.specs.Listening.{Listening, listening_behind}
 use Rattle.book_sessions.specs.Sessions.{SessionTable, no_sessions, sessions_from, sessions_of}
-use Rattle.book_sessions_json.specs.TableSeries.{Series, counted_since, due_table, due_text, due_texts, early_text, second_seen}
+use Rattle.page_sessions_json.specs.TableSeries.{Series, counted_since, due_table, due_text, due_texts, early_text, second_seen}
 use Rattle.capture_listener.specs.Listeners.{Hearing, Knows}
 use Rattle.capture_stream.specs.declared.reader.CaptureStep.TheVariants as step
 use Rattle.capture_stream.specs.declared.reader.CaptureHalt.TheVariants as stream_halt

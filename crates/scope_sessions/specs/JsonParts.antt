@@ -5,9 +5,9 @@ use Rattle.book_scope_plan.specs.AdminNames.{admin_name}
 use Rattle.book_keys.specs.Rows.{Row, Table}
 use Rattle.book_sessions.specs.declared.uses.KeyUse.{KeyUse}
 use Rattle.book_sessions.specs.OutcomeTexts.{outcome_text}
-use Rattle.book_sessions_json.specs.Json.{json_member, json_string}
-use Rattle.book_sessions_json.specs.SessionJson.{address_json, asked_for_json, id_json, last_used_json, name_json, peers_json}
-use Rattle.book_sessions_json.specs.SessionJson.{protection_word, sender_place, time_json}
+use Rattle.page_sessions_json.specs.Json.{json_member, json_string}
+use Rattle.page_sessions_json.specs.SessionJson.{address_json, asked_for_json, id_json, last_used_json, name_json, peers_json}
+use Rattle.page_sessions_json.specs.SessionJson.{protection_word, sender_place, time_json}
 
 -- of segments: who sent them, under which KeyID, and how they are protected
 abbrev pub sender_members : (heading one : KeyUse) → List (List ℕ)

@@ -9,8 +9,8 @@ use Rattle.book_cmd_check.specs.declared.given.GivenIsns.{GivenIsns}
 use Rattle.book_keys.specs.Rows.{Table}
 use Rattle.book_sessions.specs.Laps.{Judging}
 use Rattle.book_sessions.specs.Sessions.{SessionTable, sessions_of}
-use Rattle.book_sessions_json.specs.declared.form.TableRequest.{TableRequest}
-use Rattle.book_sessions_json.specs.TableSeries.{Series, early_text}
+use Rattle.page_sessions_json.specs.declared.form.TableRequest.{TableRequest}
+use Rattle.page_sessions_json.specs.TableSeries.{Series, early_text}
 use Rattle.book_base.specs.Hexadecimal.{IsByte}
 use Rattle.capture_listener.specs.Listeners.{Hearing}
 use Rattle.capture_stream.specs.Reads.{most_read}

@@ -17,10 +17,10 @@ use Rattle.book_sessions.specs.NamedKeys.{retire_lines, retiring_of}
 use Rattle.book_sessions.specs.Retiring.{evidence_of}
 use Rattle.book_sessions.specs.Sessions.{SessionTable, sessions_of}
 use Rattle.book_sessions.specs.TableTexts.{has_amiss}
-use Rattle.book_sessions_json.specs.declared.form.TableForm.TheVariants.{Lines}
-use Rattle.book_sessions_json.specs.declared.form.TableRequest.{TableRequest}
-use Rattle.book_sessions_json.specs.Forms.{written_as}
-use Rattle.book_sessions_json.specs.TableSeries.{Series, early_text, series_keys, series_text}
+use Rattle.page_sessions_json.specs.declared.form.TableForm.TheVariants.{Lines}
+use Rattle.page_sessions_json.specs.declared.form.TableRequest.{TableRequest}
+use Rattle.page_sessions_json.specs.Forms.{written_as}
+use Rattle.page_sessions_json.specs.TableSeries.{Series, early_text, series_keys, series_text}
 use Rattle.book_base.specs.Hexadecimal.{IsByte}
 use Rattle.capture_stream.specs.Reads.{most_read}
 use Rattle.scope_lines.specs.Writes.{HasRead}

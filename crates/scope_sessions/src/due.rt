@@ -2,8 +2,8 @@
 ghost use Rattle.std.specs.Prelude.{◌≡◌, ◌++◌, ◌+◌, ◌/◌, OnOk, nat_le, option_map};
 ghost use Rattle.toml.specs.View.{table_view};
 ghost use Rattle.ao_base.specs.Outside.{Side};
-ghost use Rattle.book_sessions_json.specs.Forms.{written_as};
-ghost use Rattle.book_sessions_json.specs.TableSeries.{counted_since, due_table, is_table_due, time_line};
+ghost use Rattle.page_sessions_json.specs.Forms.{written_as};
+ghost use Rattle.page_sessions_json.specs.TableSeries.{counted_since, due_table, is_table_due, time_line};
 ghost use Rattle.scope_sessions.specs.Halts.{keys_at};
 ghost use Rattle.scope_sessions.specs.Texts.{WritesText};
 
@@ -11,8 +11,8 @@ use crate::json_table::push_json;
 use crate::session_texts::push_time;
 use crate::table_text::push_table;
 use ao_base::{Failed, Sink, write_all};
-use book_sessions_json::{TableForm, TableRequest};
 use key_table::Tables;
+use page_sessions_json::{TableForm, TableRequest};
 use session_index::SessionIndex;
 use std::alloc::{AllocError, Global};
 use text_lines::push_newline;

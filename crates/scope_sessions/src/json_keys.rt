@@ -1,8 +1,8 @@
 //! The keys of a key file in JSON.
 ghost use Rattle.std.specs.Prelude.{◌≡◌, ◌++◌, ◌∷◌, [], ℕ, IfOk, List, OnOk, Some, codes, decimal, false, option_map, true};
 ghost use Rattle.toml.specs.View.{table_view};
-ghost use Rattle.book_sessions_json.specs.Json.{json_items, json_member};
-ghost use Rattle.book_sessions_json.specs.SessionJson.{asked_for_json, key_json, keys_json, last_used_json, may_go_json, name_json, peers_json, rows_json};
+ghost use Rattle.page_sessions_json.specs.Json.{json_items, json_member};
+ghost use Rattle.page_sessions_json.specs.SessionJson.{asked_for_json, key_json, keys_json, last_used_json, may_go_json, name_json, peers_json, rows_json};
 ghost use Rattle.scope_sessions.specs.Halts.{keys_at};
 ghost use Rattle.scope_sessions.specs.JsonParts.{from_members, id_members, node_members, seen_members, state_members, told_members};
 
@@ -38,7 +38,7 @@ fn push_from(alloc: Global, out: &mut Vec<u8>, last: &KeyUse) -> Result<(), Allo
 }
 
 // Puts a use of a row behind `out`.
-#[tactic(auto, unfolding(book_sessions_json::specs::SessionJson::last_used_json))]
+#[tactic(auto, unfolding(page_sessions_json::specs::SessionJson::last_used_json))]
 fn push_used(alloc: Global, out: &mut Vec<u8>, last: &KeyUse) -> Result<(), AllocError>
     ensures { OnOk result (out.new.items ≡ out.old.items ++ last_used_json (Some last.now)) }
 {
@@ -46,7 +46,7 @@ fn push_used(alloc: Global, out: &mut Vec<u8>, last: &KeyUse) -> Result<(), Allo
     push_from(alloc, out, last)
 }
 
-#[tactic(auto, unfolding(book_sessions_json::specs::SessionJson::last_used_json))]
+#[tactic(auto, unfolding(page_sessions_json::specs::SessionJson::last_used_json))]
 fn push_last(alloc: Global, out: &mut Vec<u8>, last: Option<KeyUse>) -> Result<(), AllocError>
     ensures { OnOk result (out.new.items ≡ out.old.items ++ last_used_json last) }
 {
@@ -56,7 +56,7 @@ fn push_last(alloc: Global, out: &mut Vec<u8>, last: Option<KeyUse>) -> Result<(
     }
 }
 
-#[tactic(auto, unfolding(book_sessions_json::specs::SessionJson::asked_for_json))]
+#[tactic(auto, unfolding(page_sessions_json::specs::SessionJson::asked_for_json))]
 fn push_asking(alloc: Global, out: &mut Vec<u8>, asking: Option<KeyUse>) -> Result<(), AllocError>
     ensures { OnOk result (out.new.items ≡ out.old.items ++ asked_for_json asking) }
 {

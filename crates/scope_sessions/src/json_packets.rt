@@ -1,8 +1,8 @@
 //! The packets of a capture in JSON.
 ghost use Rattle.std.specs.Prelude.{◌≡◌, ◌++◌, ◌∷◌, [], OnOk, codes, decimal, map, true};
 ghost use Rattle.book_sessions.specs.OutcomeTexts.{passed_text};
-ghost use Rattle.book_sessions_json.specs.Json.{json_array, json_items, json_member, json_string};
-ghost use Rattle.book_sessions_json.specs.SessionJson.{first_json, last_json, packets_json, passed_json};
+ghost use Rattle.page_sessions_json.specs.Json.{json_array, json_items, json_member, json_string};
+ghost use Rattle.page_sessions_json.specs.SessionJson.{first_json, last_json, packets_json, passed_json};
 
 use crate::json_values::{push_comma, push_name, push_string, push_time};
 use crate::passed_texts::push_passed;
@@ -23,7 +23,7 @@ fn push_reason(alloc: Global, out: &mut Vec<u8>, why: PassedOver) -> Result<(), 
     push_string(out, text.as_slice())
 }
 
-#[tactic(auto, unfolding(book_sessions_json::specs::SessionJson::passed_json))]
+#[tactic(auto, unfolding(page_sessions_json::specs::SessionJson::passed_json))]
 fn push_count(alloc: Global, out: &mut Vec<u8>, count: &PassedCount) -> Result<(), AllocError>
     ensures { OnOk result (out.new.items ≡ out.old.items ++ passed_json count.now) }
 {
@@ -119,7 +119,7 @@ fn push_unset(out: &mut Vec<u8>, unset: u64) -> Result<(), AllocError>
 
 /// Puts the packets of a capture behind `out`. An error for want of memory, or where more than
 /// 2^64 - 1 are counted.
-#[tactic(auto, unfolding(book_sessions_json::specs::SessionJson::packets_json))]
+#[tactic(auto, unfolding(page_sessions_json::specs::SessionJson::packets_json))]
 pub(crate) fn push_packets(
     alloc: Global,
     out: &mut Vec<u8>,

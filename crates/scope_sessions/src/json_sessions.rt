@@ -3,8 +3,8 @@ ghost use Rattle.std.specs.Prelude.{◌≡◌, ◌++◌, ◌∷◌, [], IfOk, Li
 ghost use Rattle.std.specs.List.{find, list_any};
 ghost use Rattle.book_sessions.specs.declared.uses.KeyUse.{KeyUse as Use};
 ghost use Rattle.book_sessions.specs.SessionTexts.{is_of_session, opens_session};
-ghost use Rattle.book_sessions_json.specs.Json.{json_array, json_bool, json_items, json_member};
-ghost use Rattle.book_sessions_json.specs.SessionJson.{end_json, heading_json, protection_word, sender_place, session_json, use_json, uses_json};
+ghost use Rattle.page_sessions_json.specs.Json.{json_array, json_bool, json_items, json_member};
+ghost use Rattle.page_sessions_json.specs.SessionJson.{end_json, heading_json, protection_word, sender_place, session_json, use_json, uses_json};
 ghost use Rattle.scope_sessions.specs.JsonParts.{asked_members, late_members, sender_members, span_members};
 
 use crate::json_values::{
@@ -17,7 +17,7 @@ use book_sessions::{KeyUse, Protection};
 use session_index::{SessionIndex, outcome_word};
 use std::alloc::{AllocError, Global};
 
-#[tactic(auto, unfolding(book_sessions_json::specs::SessionJson::end_json))]
+#[tactic(auto, unfolding(page_sessions_json::specs::SessionJson::end_json))]
 fn push_end(alloc: Global, out: &mut Vec<u8>, socket: &Socket) -> Result<(), AllocError>
     ensures { OnOk result (out.new.items ≡ out.old.items ++ end_json socket.now) }
 {
@@ -206,7 +206,7 @@ fn push_directions(
     Ok(())
 }
 
-#[tactic(auto, unfolding(book_sessions_json::specs::SessionJson::heading_json))]
+#[tactic(auto, unfolding(page_sessions_json::specs::SessionJson::heading_json))]
 fn push_session(
     alloc: Global,
     out: &mut Vec<u8>,

@@ -2,8 +2,8 @@
 ghost use Rattle.std.specs.Prelude.{◌≡◌, ◌++◌, ◌∷◌, [], OnOk, codes, decimal, map};
 ghost use Rattle.toml.specs.View.{table_view};
 ghost use Rattle.book_sessions.specs.Retiring.{evidence_of};
-ghost use Rattle.book_sessions_json.specs.Json.{json_array, json_bool, json_member, json_object};
-ghost use Rattle.book_sessions_json.specs.SessionJson.{foreign_json, keys_json, packets_json, session_json, sessions_json};
+ghost use Rattle.page_sessions_json.specs.Json.{json_array, json_bool, json_member, json_object};
+ghost use Rattle.page_sessions_json.specs.SessionJson.{foreign_json, keys_json, packets_json, session_json, sessions_json};
 ghost use Rattle.scope_sessions.specs.Halts.{keys_at};
 
 use crate::foreign::{Numbers, numbers_of, segments_of};
@@ -31,7 +31,7 @@ fn push_counts(out: &mut Vec<u8>, sessions: u64, segments: u64) -> Result<(), Al
 }
 
 // Puts how many sessions are foreign behind `out`, of these numbers, and how many segments they have.
-#[tactic(auto, unfolding(book_sessions_json::specs::SessionJson::foreign_json))]
+#[tactic(auto, unfolding(page_sessions_json::specs::SessionJson::foreign_json))]
 fn push_foreign(
     alloc: Global,
     out: &mut Vec<u8>,
@@ -116,7 +116,7 @@ fn push_amiss(out: &mut Vec<u8>, amiss: bool) -> Result<(), AllocError>
 
 /// Puts a table in JSON behind `out`, with the keys of these tables. An error for want of memory, or
 /// where more than 2^64 - 1 packets are counted; then a part of it may stand there.
-#[tactic(auto, unfolding(book_sessions_json::specs::SessionJson::sessions_json))]
+#[tactic(auto, unfolding(page_sessions_json::specs::SessionJson::sessions_json))]
 pub(crate) fn push_json(
     alloc: Global,
     all: bool,

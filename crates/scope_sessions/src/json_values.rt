@@ -1,8 +1,8 @@
 //! Values of JSON, put behind a text. Where memory runs out a part of one may stand there.
 ghost use Rattle.std.specs.Prelude.{◌≡◌, ◌++◌, ◌∷◌, [], OnOk};
 ghost use Rattle.std.specs.List.{flat_map};
-ghost use Rattle.book_sessions_json.specs.Json.{json_bool, json_byte, json_comma, json_name, json_string};
-ghost use Rattle.book_sessions_json.specs.SessionJson.{address_json, id_json, time_json};
+ghost use Rattle.page_sessions_json.specs.Json.{json_bool, json_byte, json_comma, json_name, json_string};
+ghost use Rattle.page_sessions_json.specs.SessionJson.{address_json, id_json, time_json};
 
 use ao_base::{push_decimal, push_hex};
 use book_base::Address;
@@ -36,7 +36,7 @@ fn push_bytes(out: &mut Vec<u8>, text: &[u8]) -> Result<(), AllocError>
 }
 
 /// Puts the text as a string behind `out`.
-#[tactic(auto, unfolding(book_sessions_json::specs::Json::json_string))]
+#[tactic(auto, unfolding(page_sessions_json::specs::Json::json_string))]
 pub(crate) fn push_string(out: &mut Vec<u8>, text: &[u8]) -> Result<(), AllocError>
     ensures { OnOk result (out.new.items ≡ out.old.items ++ json_string text.now) }
 {
@@ -48,7 +48,7 @@ pub(crate) fn push_string(out: &mut Vec<u8>, text: &[u8]) -> Result<(), AllocErr
 
 /// Puts the name of a member behind `out`, with `mark` in front: a brace where it is the first of its
 /// object, else a comma.
-#[tactic(auto, unfolding(book_sessions_json::specs::Json::json_name))]
+#[tactic(auto, unfolding(page_sessions_json::specs::Json::json_name))]
 pub(crate) fn push_name(out: &mut Vec<u8>, mark: u8, name: &[u8]) -> Result<(), AllocError>
     ensures { OnOk result (out.new.items ≡ out.old.items ++ mark ∷ json_name name.now) }
 {
@@ -80,7 +80,7 @@ pub(crate) fn push_id(out: &mut Vec<u8>, id: Option<u8>) -> Result<(), AllocErro
 }
 
 /// Puts a time, in seconds since 1970, behind `out`.
-#[tactic(auto, unfolding(book_sessions_json::specs::SessionJson::time_json))]
+#[tactic(auto, unfolding(page_sessions_json::specs::SessionJson::time_json))]
 pub(crate) fn push_time(alloc: Global, out: &mut Vec<u8>, seconds: u64) -> Result<(), AllocError>
     ensures { OnOk result (out.new.items ≡ out.old.items ++ time_json seconds) }
 {
@@ -90,7 +90,7 @@ pub(crate) fn push_time(alloc: Global, out: &mut Vec<u8>, seconds: u64) -> Resul
 }
 
 /// Puts an address behind `out`.
-#[tactic(auto, unfolding(book_sessions_json::specs::SessionJson::address_json))]
+#[tactic(auto, unfolding(page_sessions_json::specs::SessionJson::address_json))]
 pub(crate) fn push_address_text(
     alloc: Global,
     out: &mut Vec<u8>,

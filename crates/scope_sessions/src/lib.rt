@@ -28,11 +28,11 @@ mod write;
 
 pub use book_lines::LineKind;
 pub use book_sessions::Retiring;
-pub use book_sessions_json::{TableForm, TableRequest};
 pub use capture_listener::{mended, told_fault};
 pub use halt::{JudgingHalt, halt_of, halt_of_lines};
 pub use isns::read_given;
 pub use named_keys::retire_status;
+pub use page_sessions_json::{TableForm, TableRequest};
 pub use passed_texts::push_passed;
 pub use retire::write_retiring;
 pub use session_texts::{push_host, push_time};

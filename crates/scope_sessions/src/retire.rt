@@ -11,8 +11,8 @@ use crate::isns::read_given;
 use crate::named_keys::push_retiring;
 use ao_base::{Failed, Sink, Source, write_all};
 use book_sessions::Retiring;
-use book_sessions_json::{TableForm, TableRequest};
 use key_table::read_tables;
+use page_sessions_json::{TableForm, TableRequest};
 use std::alloc::Global;
 
 /// No table is asked for in front of a packet.

@@ -11,8 +11,8 @@ use crate::halt::{JudgingHalt, halt_of, halt_of_lines};
 use crate::isns::read_given;
 use crate::table_text::has_amiss;
 use ao_base::{Failed, Sink, Source, write_all};
-use book_sessions_json::TableRequest;
 use key_table::read_tables;
+use page_sessions_json::TableRequest;
 use std::alloc::Global;
 
 // Writes the table of what was counted.

@@ -1,12 +1,12 @@
 //! The head of a picture.
 ghost use Rattle.std.specs.Prelude.{◌≡◌, ◌++◌, OnOk};
-ghost use Rattle.book_svg.specs.Tags.{head_svg, style_svg};
+ghost use Rattle.page_svg.specs.Tags.{head_svg, style_svg};
 
 use crate::tags::push_numbered;
 use std::alloc::AllocError;
 
 /// How words and the page look.
-#[tactic(auto, unfolding(book_svg::specs::Tags::style_svg))]
+#[tactic(auto, unfolding(page_svg::specs::Tags::style_svg))]
 fn push_style(out: &mut Vec<u8>) -> Result<(), AllocError>
     ensures { OnOk result (out.new.items ≡ out.old.items ++ style_svg) }
 {
@@ -17,7 +17,7 @@ fn push_style(out: &mut Vec<u8>) -> Result<(), AllocError>
 }
 
 /// Puts the head of a picture 800 wide and of this height behind `out`. An error only for want of memory.
-#[tactic(auto, unfolding(book_svg::specs::Tags::head_svg))]
+#[tactic(auto, unfolding(page_svg::specs::Tags::head_svg))]
 pub fn push_head(out: &mut Vec<u8>, height: u64) -> Result<(), AllocError>
     ensures { OnOk result (out.new.items ≡ out.old.items ++ head_svg height) }
 {

@@ -1,9 +1,9 @@
 //! Tags of SVG, and text between them.
 ghost use Rattle.std.specs.Prelude.{◌≡◌, ◌++◌, OnOk, decimal, flat_map};
-ghost use Rattle.book_svg.specs.Tags.{anchor_text, box_tag, colour_text, dot_tag, escaped, escaped_byte, line_tag, titled_tag, words_tag};
+ghost use Rattle.page_svg.specs.Tags.{anchor_text, box_tag, colour_text, dot_tag, escaped, escaped_byte, line_tag, titled_tag, words_tag};
 
 use ao_base::push_decimal;
-use book_svg::Point;
+use page_svg::Point;
 use std::alloc::AllocError;
 
 fn push_escaped_byte(out: &mut Vec<u8>, byte: u8) -> Result<(), AllocError>
@@ -41,7 +41,7 @@ pub(crate) fn push_numbered(out: &mut Vec<u8>, piece: &[u8], number: u64) -> Res
 
 /// Puts a line from one point to another behind `out`, with further attributes, each of which begins with a
 /// space. An error only for want of memory.
-#[tactic(auto, unfolding(book_svg::specs::Tags::line_tag))]
+#[tactic(auto, unfolding(page_svg::specs::Tags::line_tag))]
 pub fn push_line(
     out: &mut Vec<u8>,
     from: Point,
@@ -61,7 +61,7 @@ pub fn push_line(
 
 /// Puts a box behind `out` whose upper left corner is the point, with further attributes, each of which begins
 /// with a space. An error only for want of memory.
-#[tactic(auto, unfolding(book_svg::specs::Tags::box_tag))]
+#[tactic(auto, unfolding(page_svg::specs::Tags::box_tag))]
 pub fn push_box(
     out: &mut Vec<u8>,
     at: Point,
@@ -82,7 +82,7 @@ pub fn push_box(
 }
 
 /// Puts a dot behind `out`. An error only for want of memory.
-#[tactic(auto, unfolding(book_svg::specs::Tags::dot_tag))]
+#[tactic(auto, unfolding(page_svg::specs::Tags::dot_tag))]
 pub fn push_dot(out: &mut Vec<u8>, at: Point) -> Result<(), AllocError>
     ensures { OnOk result (out.new.items ≡ out.old.items ++ dot_tag at) }
 {
@@ -104,7 +104,7 @@ fn anchor_text(ends: bool) -> &'static [u8]
 
 /// Puts words behind `out` that begin at the point, or end there; they are escaped. An error only for want of
 /// memory.
-#[tactic(auto, unfolding(book_svg::specs::Tags::words_tag))]
+#[tactic(auto, unfolding(page_svg::specs::Tags::words_tag))]
 pub fn push_words(out: &mut Vec<u8>, at: Point, ends: bool, words: &[u8]) -> Result<(), AllocError>
     ensures { OnOk result (out.new.items ≡ out.old.items ++ words_tag at ends words.now) }
 {
@@ -116,7 +116,7 @@ pub fn push_words(out: &mut Vec<u8>, at: Point, ends: bool, words: &[u8]) -> Res
 }
 
 /// Puts the colour of a KeyID behind `out`; black for none. An error only for want of memory.
-#[tactic(auto, unfolding(book_svg::specs::Tags::colour_text))]
+#[tactic(auto, unfolding(page_svg::specs::Tags::colour_text))]
 pub fn push_colour(out: &mut Vec<u8>, key_id: Option<u8>) -> Result<(), AllocError>
     ensures { OnOk result (out.new.items ≡ out.old.items ++ colour_text key_id) }
 {
@@ -131,7 +131,7 @@ pub fn push_colour(out: &mut Vec<u8>, key_id: Option<u8>) -> Result<(), AllocErr
 
 /// Puts a group that has a title behind `out`: its class, the KeyID of the colour of its strokes, or none, its
 /// title, which is escaped, and what is drawn of it, which isn't. An error only for want of memory.
-#[tactic(auto, unfolding(book_svg::specs::Tags::titled_tag))]
+#[tactic(auto, unfolding(page_svg::specs::Tags::titled_tag))]
 pub fn push_titled(
     out: &mut Vec<u8>,
     class: &[u8],

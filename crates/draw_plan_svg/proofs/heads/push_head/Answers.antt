@@ -1,7 +1,7 @@
 use Rattle.std.proofs.Common.{List, ℕ, ◌++◌, ap, ◌∙◌, append_assoc}
 use Rattle.std.specs.Prelude.{codes}
-use Rattle.book_draw_plan_svg.specs.PlanPictures.{plan_head, plan_size}
-use Rattle.book_svg.specs.Tags.{style_svg}
+use Rattle.page_draw_plan_svg.specs.PlanPictures.{plan_head, plan_size}
+use Rattle.page_svg.specs.Tags.{style_svg}
 use Rattle.draw_plan_svg.proofs.heads.push_head.Goals as goal
 
 pub returns : goal.returns

@@ -1,6 +1,6 @@
 use Rattle.std.proofs.Common.{◌++◌}
 use Rattle.std.specs.Prelude.{codes, decimal}
-use Rattle.book_draw_plan_svg.specs.PlanPictures.{plan_size}
+use Rattle.page_draw_plan_svg.specs.PlanPictures.{plan_size}
 use Rattle.plan_texts.proofs.Parts.{four}
 use Rattle.draw_plan_svg.proofs.heads.push_size.Goals as goal
 

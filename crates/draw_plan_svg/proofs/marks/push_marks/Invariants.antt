@@ -1,6 +1,6 @@
 use Rattle.std.proofs.Common.{◌≡◌, ◌++◌, drop}
 use Rattle.std.specs.Prelude.{flat_map}
-use Rattle.book_draw_plan_svg.specs.PlanPictures.{finding_svg}
+use Rattle.page_draw_plan_svg.specs.PlanPictures.{finding_svg}
 use Rattle.draw_plan_svg.specs.Draws.{judged_of}
 use Rattle.draw_plan_svg.proofs.marks.push_marks.Given as goal
 

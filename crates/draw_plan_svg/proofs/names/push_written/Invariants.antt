@@ -1,5 +1,5 @@
 use Rattle.std.proofs.Common.{◌≡◌, ◌++◌, drop}
-use Rattle.book_draw_plan_svg.specs.RowNames.{written_after}
+use Rattle.page_draw_plan_svg.specs.RowNames.{written_after}
 use Rattle.draw_plan_svg.proofs.names.push_written.Given as goal
 
 abbrev pub invariant-loop-byte : goal.invariant-loop-byte

@@ -1,7 +1,7 @@
 use Rattle.std.proofs.Common.{◌+◌, ◌++◌, [], ◌∷◌, map}
 use Rattle.toml.specs.View.{table_view}
 use Rattle.book_draw_plan.specs.BarOrders.{bars_of}
-use Rattle.book_draw_plan_svg.specs.PlanLines.{Barred, Scale, both_lines, wrong_lines}
+use Rattle.page_draw_plan_svg.specs.PlanLines.{Barred, Scale, both_lines, wrong_lines}
 use Rattle.draw_plan_svg.specs.Draws.{judged_of}
 use Rattle.draw_plan_svg.proofs.DrawsLaws.{bars_drawn, draws_one, draws_then}
 use Rattle.draw_plan_svg.proofs.panel.push_both.Goals as goal

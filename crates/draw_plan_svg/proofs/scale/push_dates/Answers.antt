@@ -1,5 +1,5 @@
 use Rattle.std.proofs.Common.{◌++◌, ◌-◌, arith}
-use Rattle.book_draw_plan_svg.specs.PlanPictures.{dates_svg}
+use Rattle.page_draw_plan_svg.specs.PlanPictures.{dates_svg}
 use Rattle.draw_plan_svg.proofs.DateWalk.{no_date, one_step}
 use Rattle.draw_plan_svg.proofs.scale.push_dates.Goals as goal
 

@@ -1,5 +1,5 @@
 use Rattle.std.proofs.Common.{◌≡◌, ◌++◌, ◌-◌}
-use Rattle.book_draw_plan_svg.specs.PlanPictures.{dates_svg}
+use Rattle.page_draw_plan_svg.specs.PlanPictures.{dates_svg}
 use Rattle.draw_plan_svg.proofs.scale.push_dates.Given as goal
 
 abbrev pub invariant-loop-done : goal.invariant-loop-done

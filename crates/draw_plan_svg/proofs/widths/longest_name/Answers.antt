@@ -1,6 +1,6 @@
 use Rattle.std.proofs.Common.{arith}
 use Rattle.toml.specs.View.{table_view}
-use Rattle.book_draw_plan_svg.specs.RowNames.{longest_name}
+use Rattle.page_draw_plan_svg.specs.RowNames.{longest_name}
 use Rattle.draw_plan_svg.proofs.WidthLaws.{one_node}
 use Rattle.draw_plan_svg.proofs.widths.longest_name.Goals as goal
 

@@ -1,6 +1,6 @@
 use Rattle.std.proofs.Common.{◌≡◌, ◌+◌, drop}
 use Rattle.toml.specs.View.{table_view}
-use Rattle.book_draw_plan_svg.specs.RowNames.{longest_row}
+use Rattle.page_draw_plan_svg.specs.RowNames.{longest_row}
 use Rattle.draw_plan_svg.proofs.widths.longest_row.Given as goal
 
 abbrev pub invariant-loop-i : goal.invariant-loop-i

@@ -1,5 +1,5 @@
 use Rattle.std.specs.Prelude.{codes}
-use Rattle.book_draw_svg.specs.Pictures.{dash_attribute}
+use Rattle.page_draw_svg.specs.Pictures.{dash_attribute}
 use Rattle.svg_tags.proofs.Parts.{two}
 use Rattle.draw_svg.proofs.heads.push_black.Goals as goal
 

@@ -1,5 +1,5 @@
 use Rattle.std.specs.Prelude.{codes}
-use Rattle.book_draw_svg.specs.Pictures.{lost_tip_svg}
+use Rattle.page_draw_svg.specs.Pictures.{lost_tip_svg}
 use Rattle.svg_tags.proofs.Parts.{three}
 use Rattle.draw_svg.proofs.heads.push_lost_tip.Goals as goal
 

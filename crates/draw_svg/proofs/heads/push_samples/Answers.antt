@@ -1,6 +1,6 @@
 use Rattle.std.specs.Prelude.{codes}
-use Rattle.book_draw_svg.specs.declared.placed.Stroke.TheVariants as stroke
-use Rattle.book_draw_svg.specs.Pictures.{sample_svg, samples_svg}
+use Rattle.page_draw_svg.specs.declared.placed.Stroke.TheVariants as stroke
+use Rattle.page_draw_svg.specs.Pictures.{sample_svg, samples_svg}
 use Rattle.svg_tags.proofs.Parts.{five}
 use Rattle.draw_svg.proofs.heads.push_samples.Goals as goal
 

@@ -1,6 +1,6 @@
 use Rattle.std.specs.Prelude.{codes, false}
-use Rattle.book_draw_svg.specs.Pictures.{end_column, upright_svg}
-use Rattle.book_svg.specs.Tags.{line_tag, words_tag}
+use Rattle.page_draw_svg.specs.Pictures.{end_column, upright_svg}
+use Rattle.page_svg.specs.Tags.{line_tag, words_tag}
 use Rattle.svg_tags.proofs.Parts.{two}
 use Rattle.draw_svg.proofs.heads.push_upright.Goals as goal
 

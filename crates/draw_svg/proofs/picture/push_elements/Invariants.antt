@@ -1,8 +1,8 @@
 use Rattle.std.proofs.Common.{◌≡◌, ◌++◌, List, [], drop, take}
 use Rattle.std.specs.Prelude.{flat_map, reverse}
 use Rattle.book_draw.specs.declared.rung.Rung.{Rung}
-use Rattle.book_draw_svg.specs.Pictures.{element_svg}
-use Rattle.book_draw_svg.specs.Placements.{placements_from}
+use Rattle.page_draw_svg.specs.Pictures.{element_svg}
+use Rattle.page_draw_svg.specs.Placements.{placements_from}
 use Rattle.draw_ladder.specs.Sights.{Saw}
 use Rattle.draw_svg.specs.Kept.{Keeps}
 use Rattle.draw_svg.proofs.picture.push_elements.Given as goal

@@ -1,8 +1,8 @@
 use Rattle.std.proofs.Common.{◌≡◌, ◌++◌, drop, true}
 use Rattle.std.specs.List.{flat_map}
 use Rattle.toml.specs.View.{table_view}
-use Rattle.book_sessions_json.specs.Json.{json_items}
-use Rattle.book_sessions_json.specs.SessionJson.{rows_json}
+use Rattle.page_sessions_json.specs.Json.{json_items}
+use Rattle.page_sessions_json.specs.SessionJson.{rows_json}
 use Rattle.scope_sessions.specs.Halts.{keys_at}
 use Rattle.scope_sessions.proofs.json_keys.push_keys.Given as goal
 

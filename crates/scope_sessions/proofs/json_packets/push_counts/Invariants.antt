@@ -1,6 +1,6 @@
 use Rattle.std.proofs.Common.{◌≡◌, ◌++◌, ◌==◌, drop, map, true}
-use Rattle.book_sessions_json.specs.Json.{json_items}
-use Rattle.book_sessions_json.specs.SessionJson.{passed_json}
+use Rattle.page_sessions_json.specs.Json.{json_items}
+use Rattle.page_sessions_json.specs.SessionJson.{passed_json}
 use Rattle.scope_sessions.proofs.json_packets.push_counts.Given as goal
 
 abbrev pub invariant-loop-i : goal.invariant-loop-i

@@ -1,6 +1,6 @@
 use Rattle.std.proofs.Common.{◌≡◌, ◌++◌, drop, map, true}
-use Rattle.book_sessions_json.specs.Json.{json_items}
-use Rattle.book_sessions_json.specs.SessionJson.{session_json}
+use Rattle.page_sessions_json.specs.Json.{json_items}
+use Rattle.page_sessions_json.specs.SessionJson.{session_json}
 use Rattle.scope_sessions.proofs.json_sessions.push_sessions.Given as goal
 
 abbrev pub invariant-loop-number : goal.invariant-loop-number

@@ -1,7 +1,7 @@
 use Rattle.std.proofs.Common.{◌≡◌, ◌++◌, drop, filter, map, true}
 use Rattle.book_sessions.specs.SessionTexts.{is_of_session}
-use Rattle.book_sessions_json.specs.Json.{json_items}
-use Rattle.book_sessions_json.specs.SessionJson.{use_json}
+use Rattle.page_sessions_json.specs.Json.{json_items}
+use Rattle.page_sessions_json.specs.SessionJson.{use_json}
 use Rattle.scope_sessions.proofs.json_sessions.push_uses.Given as goal
 
 abbrev pub invariant-loop-one : goal.invariant-loop-one

@@ -1,6 +1,6 @@
 use Rattle.std.proofs.Common.{◌≡◌, ◌++◌, drop}
 use Rattle.std.specs.List.{flat_map}
-use Rattle.book_sessions_json.specs.Json.{json_byte}
+use Rattle.page_sessions_json.specs.Json.{json_byte}
 use Rattle.scope_sessions.proofs.json_values.push_bytes.Given as goal
 
 abbrev pub invariant-loop-byte : goal.invariant-loop-byte

@@ -1,5 +1,5 @@
 use Rattle.std.specs.Prelude.{◌++◌, codes, decimal}
-use Rattle.book_svg.specs.Tags.{head_svg, style_svg}
+use Rattle.page_svg.specs.Tags.{head_svg, style_svg}
 use Rattle.svg_tags.proofs.Parts.{five}
 use Rattle.svg_tags.proofs.heads.push_head.Goals as goal
 

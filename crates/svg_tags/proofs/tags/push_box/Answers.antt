@@ -1,5 +1,5 @@
 use Rattle.std.specs.Prelude.{◌++◌, codes, decimal}
-use Rattle.book_svg.specs.Tags.{box_tag}
+use Rattle.page_svg.specs.Tags.{box_tag}
 use Rattle.svg_tags.proofs.Parts.{seven}
 use Rattle.svg_tags.proofs.tags.push_box.Goals as goal
 

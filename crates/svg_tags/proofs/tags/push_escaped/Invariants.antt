@@ -1,6 +1,6 @@
 use Rattle.std.proofs.Common.{◌≡◌, ◌++◌, drop}
 use Rattle.std.specs.Prelude.{flat_map}
-use Rattle.book_svg.specs.Tags.{escaped_byte}
+use Rattle.page_svg.specs.Tags.{escaped_byte}
 use Rattle.svg_tags.proofs.tags.push_escaped.Given as goal
 
 abbrev pub invariant-loop-byte : goal.invariant-loop-byte

@@ -1,5 +1,5 @@
 use Rattle.std.specs.Prelude.{codes}
-use Rattle.book_svg.specs.Tags.{titled_tag, colour_text, escaped}
+use Rattle.page_svg.specs.Tags.{titled_tag, colour_text, escaped}
 use Rattle.svg_tags.proofs.Parts.{nine}
 use Rattle.svg_tags.proofs.tags.push_titled.Goals as goal
 

@@ -1,5 +1,0 @@
-use Rattle.book_draw_plan_svg.proofs.SpanLaws.{finding_exactly}
-use Rattle.book_draw_plan_svg.proofs.laws.marks_show_the_findings.Goals as goal
-
-pub returns : goal.returns
-returns c = finding_exactly

@@ -1,5 +1,0 @@
-use Rattle.book_sessions_json.proofs.Early.{none_early}
-use Rattle.book_sessions_json.proofs.laws.no_table_is_early.Goals as goal
-
-pub returns : goal.returns
-returns c = none_early

@@ -1,5 +1,0 @@
-use Rattle.book_svg.proofs.Escapes.{all_plain}
-use Rattle.book_svg.proofs.laws.escaped_text_has_no_mark.Goals as goal
-
-pub returns : goal.returns
-returns c = all_plain
