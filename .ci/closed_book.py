@@ -5,6 +5,7 @@ most lines that they may have, and what the part takes from outside. This names 
 - a definition that a part's tops reach, directly or through others, is in no file of that part or of an earlier one, nor listed there as
   taken from a later part or from outside the repository; or where something listed isn't taken;
 - a file of definitions of a `book_*` crate is in no part, or in two, or a part has a file or a top that is none;
+- a definition cites a file that stands after its own in the part's order of reading;
 - a part has more lines than its bar, without comments, blank lines and imports, with the plain types that its tops are the first to reach;
 - a line of a `book_*` crate's definitions has more than 100 columns, comments and imports too;
 - what a clause of `ao_run::run` cites stands neither in the book nor in the list below of what may stand outside;
@@ -56,6 +57,16 @@ def misplaced(parts, found):
         for file, name in [*part.tops, *part.later]:
             if file not in found or name not in book.definitions(file):
                 yield f"part {part.number}: {file} has no {name}"
+
+
+def disorder(part):
+    """The definitions that cite a later file of their part; what a second reading adds stands last."""
+    order = {file: place for place, file in enumerate(part.all_files())}
+    for file in order:
+        for name, body in book.definitions(file).items():
+            for path, wanted in book.cited(book.names_of(file), body):
+                if order.get(book.module(path), -1) > order[file]:
+                    yield f"part {part.number}: {file}: {name} cites {wanted} of {book.module(path)}, which stands after it in .ci/book.txt"
 
 
 def walk(part):
@@ -130,7 +141,7 @@ def look(parts, found):
     faults, reached, types = list(cited_by_run(homes)), {}, []
     for part in parts:
         here, kit = walk(part)
-        faults += strays(part, homes, here, kit, parts[:part.place])
+        faults += [*strays(part, homes, here, kit, parts[:part.place]), *disorder(part)]
         known = set(types_of_books())
         types.append(sorted(it for it in here if it in known and it not in reached))
         reached |= here
