@@ -1,12 +1,15 @@
 #!/usr/bin/env python3
 """The names, the sources and the arguments of the book: which names have more than one definition in it, which definitions' comments name
 no source, and which functions have more than five arguments or neighbouring arguments of one plain type. The book
-here is all crates of definitions: each crate whose name begins with `book_`.
+here is all crates of definitions, with the pages: each crate whose name begins with `book_` or `page_`.
 A definition is what a file of specs/ defines by a name of its own: functions, types and the constructors of its types; the fields
 of a record belong to it, and are none. An operator that `do` blocks are written over, `◌>>=◌`, has one for each type of what is read. A
 source is an RFC or another standard with the section, or *own* in brackets. Plain types are numbers, truth values, and lists and
 options of those; arguments that the signature names (`(low high : ℕ)`) count as told apart.
-Prints the lists and how long they are; fails on nothing, but with --strict where one of them isn't empty."""
+Plain types in src/ are names too: one that another type has, of src/ or of specs/, means two things. Those that did when this was first
+looked at are in KNOWN_TYPES, which may only lose names: one that is there and has a single meaning now fails as well.
+Prints the lists and how long they are; fails on nothing, but with --strict where one of them isn't empty. With --equal it also
+prints the definitions that have equal bodies but for their own names, which is no fault."""
 import pathlib
 import re
 import sys
@@ -18,14 +21,22 @@ STANDARD = r"(?:RFC|FIPS|NIST|IEEE|ISO|ITU-T|pcapng|draft-\S+)[\w ./-]*, (?:(?:s
 NAMED = r"libpcap|pcap-savefile|SplitMix64|IANA"
 SOURCE = re.compile(rf"{STANDARD}|\((?:[^()]*\W)?(?:own|{NAMED})\b[^()]*\)")
 FOR_DO = {"◌>>=◌"}
+KNOWN_TYPES = {"Act", "Change", "Finding", "Front", "Head", "Kept", "KeyIds", "LinkType", "NoRow", "RecordFault", "Timed", "Told", "Turn"}
 PLAIN = re.compile(r"(?:(?:List|Option) \(?)*(?:ℕ|Bool)\)*")
 MOST_ARGUMENTS = 5
 
 
 def files():
     for crate in sorted(CRATES.iterdir()):
-        if crate.name.startswith("book_"):
+        if crate.name.startswith(("book_", "page_")):
             yield from sorted(crate.glob("specs/*.antt"))
+
+
+def plain_types():
+    """Each plain type of the crates' sources, as its name and its place; those of laws.rt are none."""
+    for path in sorted(it for crate in CRATES.iterdir() if crate.name.startswith(("book_", "page_")) for it in crate.glob("src/**/*.rt")):
+        for name in re.findall(r"^pub (?:struct|enum|type) (\w+)", path.read_text(encoding="utf-8"), re.M):
+            yield name, f"{path.relative_to(CRATES).parts[0]}/src/{path.stem}"
 
 
 def definitions(path):
@@ -89,8 +100,30 @@ def tell_arguments(found):
     return not many and not alike
 
 
+def tell_types(homes):
+    """Prints the plain types whose names mean two things; whether they are those that are known."""
+    places = {}
+    for name, place in plain_types():
+        places.setdefault(name, []).append(place)
+    several = {name: found + homes.get(name, []) for name, found in places.items() if len(found + homes.get(name, [])) > 1}
+    for name, found in sorted(several.items()):
+        print(f"{'known' if name in KNOWN_TYPES else 'new'}: a type with two meanings: {name}: {', '.join(found)}")
+    gone = sorted(KNOWN_TYPES - several.keys())
+    print(*(f"KNOWN_TYPES has {name}, which has one meaning now: take it out" for name in gone), sep="\n", end="\n" if gone else "")
+    print(f"plain types whose names mean two things: {len(several)}, of which {len(KNOWN_TYPES)} are known")
+    return several.keys() == KNOWN_TYPES
+
+
+def tell_equal(bodies):
+    """Prints the definitions whose bodies are equal but for their own names."""
+    equal = {body: places for body, places in bodies.items() if len(places) > 1}
+    for places in sorted(equal.values()):
+        print(f"equal bodies: {', '.join(places)}")
+    print(f"bodies that several definitions have: {len(equal)}")
+
+
 def main(words):
-    homes, without, found = {}, [], []
+    homes, without, found, bodies = {}, [], [], {}
     for path in files():
         place = f"{path.parts[-3]}/{path.stem}"
         for name, comment, body in definitions(path):
@@ -98,14 +131,17 @@ def main(words):
             if comment is not None:
                 found.append((place, name, list(arguments(body))))
                 without += [] if SOURCE.search(comment) else [f"{place}: {name}"]
+                bodies.setdefault(re.sub(rf"(?<![\w']){re.escape(name)}(?![\w'])", "_", body), []).append(f"{place}: {name}")
     several = {name: places for name, places in homes.items() if len(places) > 1 and name not in FOR_DO}
     for name, places in sorted(several.items()):
         print(f"defined {len(places)} times: {name}: {', '.join(places)}")
     for one in without:
         print(f"names no source: {one}")
-    told_apart = tell_arguments(found)
+    told_apart, are_known = tell_arguments(found), tell_types(homes)
+    if "--equal" in words:
+        tell_equal(bodies)
     print(f"names of the book with more than one definition: {len(several)}; definitions that name no source: {len(without)}")
-    return 1 if "--strict" in words and (several or without or not told_apart) else 0
+    return 1 if "--strict" in words and (several or without or not told_apart or not are_known) else 0
 
 
 sys.exit(main(sys.argv[1:]))
