@@ -1,0 +1,4 @@
+pub mod Turns
+pub mod Serving
+pub mod Among
+pub mod Gaining
