@@ -20,7 +20,8 @@ use Rattle.law_progress.proofs.Taking.{Settled, takes_all}
 use Rattle.law_progress.proofs.Trips.{Tripped, Over, same_then, flip, flip_back}
 use Rattle.law_progress.proofs.Turning.{Two}
 use Rattle.law_reaching.specs.Reaching.{Served, Speaks, Takes, serves, is_beside, Trip, Trips, all_served, count_of, Reaches, NeverStuckAmong, CatchesUpAmong}
-use Rattle.law_reaching.proofs.Among.{Kept, kept, one_trip}
+use Rattle.law_reaching.proofs.Among.{one_trip}
+use Rattle.law_reaching.proofs.Keeping.{Kept, kept}
 use Rattle.law_reaching.proofs.Serving.{served, all_after, after_nothing, after_more, after_both, over_all, Beside, same_still}
 
 -- ---- both ends, the first of them far

@@ -5,4 +5,4 @@
 
 mod reaching;
 
-pub use reaching::{catches_up_among, never_stuck_among};
+pub use reaching::{catches_up_among, is_met, never_stuck_among};
