@@ -1,6 +1,6 @@
-//! What holds of a link that loses nothing from a moment on, whoever speaks besides: any exchange
-//! delivers all that was given, if it has enough round trips among its other turns. Theorems
-//! alone, as contracts of empty functions.
+//! What holds of a link that loses nothing from a moment on, in exchanges that aren't fixed: enough
+//! round trips among other turns deliver all that was given, if within a round trip none but its own
+//! end says more. Theorems alone, as contracts of empty functions.
 #![tactic(auto)]
 
 mod reaching;

@@ -18,18 +18,20 @@ ghost use Rattle.law_reaching.specs.Reaching.{Speaks, Takes, HasTurns, NeverStuc
 /// 2^31 bytes, both sessions last through whatever is served, and the oldest unacknowledged number
 /// of each end moves by one at least for each round trip of that end, until all that is to be sent
 /// there is acknowledged. Round trips may stand in any order, with any turns of both ends and any
-/// takes between them; within a round trip of an end that end may speak further, and both users
-/// may take. It holds after every list of events: whatever was lost, repeated, reordered, altered
-/// or injected before.
+/// takes between them. Within a round trip of an end that end may send and resend besides, and both
+/// users may take; the other end says nothing but its own turns. No clock changes. It holds after
+/// every list of events: whatever was lost, repeated, reordered, altered or injected before.
 pub fn never_stuck_among()
     ensures { (setup : Setup) (events : List Event) → SetupFits setup → TablesFit setup
         → AllByRecursion EventFits events → GivesFew (run setup events)
         → NeverStuckAmong setup (run setup events) }
 {}
 
-/// If those round trips are as many at each end as numbers wait there, then after a take at both
-/// all bytes that were given to both ends are acknowledged, and so is the FIN of each that was
-/// closed; the bytes are taken at the partner, and the end of a closed stream is reached there.
+/// Where the link is up, the handshake is over at both ends, and each session was given fewer than
+/// 2^31 bytes, after as many such round trips of each end as numbers wait there, whatever else is
+/// served, and a take at both, all bytes that were given to both ends are acknowledged, and so is
+/// the FIN of each that was closed; the bytes are taken at the partner, and the end of a closed
+/// stream is reached there.
 pub fn catches_up_among()
     ensures { (setup : Setup) (events : List Event) → SetupFits setup → TablesFit setup
         → AllByRecursion EventFits events → GivesFew (run setup events)
