@@ -1,0 +1,4 @@
+pub mod Doings
+pub mod Users
+pub mod Links
+pub mod Ends

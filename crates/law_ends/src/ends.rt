@@ -1,0 +1,49 @@
+//! What holds of two stacks that talk over any path.
+ghost use Rattle.std.specs.Prelude.{ℕ, List};
+ghost use Rattle.std.specs.List.{AllByRecursion};
+ghost use Rattle.book_base.specs.declared.end.End.{End};
+ghost use Rattle.book_link.specs.Worlds.{Setup};
+ghost use Rattle.book_stack.specs.Calls.{Incoming};
+ghost use Rattle.law_link.specs.Laws.{SetupFits};
+ghost use Rattle.law_ends.specs.Doings.{Doing, DoingFits};
+ghost use Rattle.law_ends.specs.Users.{FreshIsns};
+ghost use Rattle.law_ends.specs.Ends.{HeldInOrder, ToldInOrder, HeldIsPartners, HeldEndsWhole, ToldEndsWhole, HeldIsReceived, ResetByAbort};
+
+/// Where no forgery is counted, what takes delivered at an end, and then what is ready there, begins
+/// what was given at its partner: the session of the other end that knows its initial sequence number
+/// and whose initial sequence number it knows. An end without a partner delivers nothing. `told` says
+/// it in the answers of calls alone, of each session of each end, the removed ones among them: what
+/// takes delivered is nothing, or begins what was given in a session of the other end.
+pub fn bytes_come_in_order()
+    ensures held { (setup : Setup) (most : End → ℕ) (doings : List Doing) → SetupFits setup → AllByRecursion DoingFits doings → FreshIsns setup most doings → HeldInOrder setup most doings }
+    ensures told { (setup : Setup) (most : End → ℕ) (doings : List Doing) → SetupFits setup → AllByRecursion DoingFits doings → FreshIsns setup most doings → ToldInOrder setup most doings }
+{}
+
+/// Where no forgery is counted, each byte that an end received, in order or not, is the one that its
+/// partner was given at that number, and a FIN that it recorded is its partner's; an end without a
+/// partner received nothing.
+pub fn bytes_are_the_partners()
+    ensures { (setup : Setup) (most : End → ℕ) (doings : List Doing) → SetupFits setup → AllByRecursion DoingFits doings → FreshIsns setup most doings → HeldIsPartners setup most doings }
+{}
+
+/// Where no forgery is counted, an end is at the end of its stream only where close was called at its
+/// partner and the bytes that were taken are all that were given there. `told` says it in the answers
+/// of calls alone: a take tells the end only where a session of the other end was closed, and what
+/// takes delivered is all that was given in it.
+pub fn streams_end_whole()
+    ensures held { (setup : Setup) (most : End → ℕ) (doings : List Doing) → SetupFits setup → AllByRecursion DoingFits doings → FreshIsns setup most doings → HeldEndsWhole setup most doings }
+    ensures told { (setup : Setup) (most : End → ℕ) (doings : List Doing) → SetupFits setup → AllByRecursion DoingFits doings → FreshIsns setup most doings → ToldEndsWhole setup most doings }
+{}
+
+/// Where no forgery is counted and fewer than 2^31 bytes were given in each session, each given byte
+/// of an end below its oldest unacknowledged number is below the number that its partner expects.
+pub fn acknowledged_was_received()
+    ensures { (setup : Setup) (most : End → ℕ) (doings : List Doing) → SetupFits setup → AllByRecursion DoingFits doings → FreshIsns setup most doings → HeldIsReceived setup most doings }
+{}
+
+/// Where no forgery is counted, a call that hears a datagram of the pair answers that it reset the
+/// connection only where abort was called in a session of the other end before.
+pub fn resets_come_of_aborts()
+    ensures { (setup : Setup) (most : End → ℕ) (doings : List Doing) (e : End) (coming : Incoming) → SetupFits setup → AllByRecursion DoingFits doings → FreshIsns setup most doings
+        → ResetByAbort setup most doings e coming }
+{}
