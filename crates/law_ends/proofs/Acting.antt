@@ -13,9 +13,9 @@ use Rattle.book_link.specs.Steps.{Act, View, acted, quietly, given, took, sent, 
 use Rattle.book_link.specs.Runs.{run_from}
 use Rattle.book_cmd_node.specs.declared.node.Act.{Act as NodeAct}
 use Rattle.book_cmd_node.specs.declared.node.Act.TheVariants as act
-use Rattle.book_cmd_node.specs.NodeRuns.{NodeState, NodeStep, NodeOutcome, Called, Performed, NodeFull, InUse, NoRoom, ConnectionClosing, NothingToSend, NothingToResend, Delivered, called, made_called, take_called, after_call, stays, held_end, most_ends, new_end, on_held, on_other, on_pair}
+use Rattle.book_cmd_node.specs.NodeRuns.{NodeState, NodeStep, NodeOutcome, Performed, NodeFull, InUse, NoRoom, ConnectionClosing, NothingToSend, NothingToResend, called, made_called, take_called, after_call, stays, held_end, most_ends, on_held, on_other, on_pair}
 use Rattle.law_node.proofs.Held.{held, once_without}
-use Rattle.law_ends.specs.Users.{UserSession, new_session, at_newest, after_act, AreFresh, IsTold}
+use Rattle.law_ends.specs.Users.{UserSession, new_session, after_act, AreFresh, IsTold}
 use Rattle.law_ends.specs.Links.{IsLive, act_events, is_refusal}
 use Rattle.law_ends.proofs.Stays.{part_of, Emitting, emit_emitting, resend_emitting}
 use Rattle.law_ends.proofs.Standing.{Stands, Goes, goes_still, held_goes, quiet_goes, refused_goes, begins_goes}

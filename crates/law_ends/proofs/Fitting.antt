@@ -1,5 +1,5 @@
 -- The events of a link fit where the calls do.
-use Rattle.std.proofs.Common.{◌≡◌, ℕ, ◌/◌, ◌≤◌, Bool, true, false, not, ◌&&◌, nat_le, List, [], ◌∷◌, ◌++◌, length, Option, Some, None, if◌then◌else◌, refl}
+use Rattle.std.proofs.Common.{ℕ, ◌≤◌, Bool, true, false, not, ◌&&◌, nat_le, List, [], ◌∷◌, ◌++◌, length, Option, Some, None, if◌then◌else◌}
 use Rattle.std.specs.List.{AllByRecursion}
 use Rattle.book_base.specs.declared.address.Pair.{Pair}
 use Rattle.book_base.specs.declared.end.End.{End}
@@ -17,13 +17,13 @@ use Rattle.book_cmd_node.specs.declared.node.Act.TheVariants as act
 use Rattle.book_cmd_node.specs.declared.node.NodeEvent.{NodeEvent}
 use Rattle.book_cmd_node.specs.declared.node.NodeEvent.TheVariants as event
 use Rattle.book_cmd_node.specs.NodeRuns.{NodeOutcome, NodeFull, held_end}
-use Rattle.book_stack.specs.Calls.{Call, At, Input, Output, Add, Withdraw, Did, Told, Adds, CallAnswer, Withdraws, added, withdrew, at_other, at_pair, begun, bytes_received, call, plain_step, asking, unasked, stepped}
+use Rattle.book_stack.specs.Calls.{Call, At, Input, Output, Add, Withdraw, Did, Told, added, withdrew, at_other, at_pair, begun, bytes_received, call, plain_step, asking, unasked, stepped}
 use Rattle.book_stack.specs.Stacks.{StackState, touched}
 use Rattle.book_stack.specs.Turns.{clocked, output_at}
 use Rattle.law_node.specs.Alone.{is_mine}
 use Rattle.law_link.specs.Laws.{EventFits, RowFits}
 use Rattle.law_ends.specs.Doings.{Doing, Twins, stack_of, after_doing, new_twins, ActFits, CallFits, DoingFits}
-use Rattle.law_ends.specs.Links.{act_events, plain_events, answered_events, events_by, row_events, did_events, doing_events, link_events_from, link_events, is_refusal}
+use Rattle.law_ends.specs.Links.{act_events, plain_events, answered_events, events_by, did_events, doing_events, link_events_from, link_events, is_refusal}
 use Rattle.law_ends.proofs.Making.{all_joined, clocked_makes, received_makes, output_makes}
 
 -- a plain event fits

@@ -1,22 +1,21 @@
 -- Two stacks and the link that mirrors them, over any calls.
-use Rattle.std.proofs.Common.{◌≡◌, ℕ, Bool, true, false, List, [], ◌∷◌, ◌++◌, Option, Some, None, if◌then◌else◌, refl, sym, ap, ◌∙◌, subst}
+use Rattle.std.proofs.Common.{◌≡◌, ℕ, Bool, true, false, List, [], ◌∷◌, if◌then◌else◌, refl, sym, subst}
 use Rattle.book_base.specs.declared.address.Pair.{Pair}
 use Rattle.book_base.specs.declared.end.End.{End}
 use Rattle.book_base.specs.declared.end.End.TheVariants.{A, B}
 use Rattle.book_keys.specs.Rows.{Row}
 use Rattle.book_link.specs.Runs.{empty, run_from}
-use Rattle.book_link.specs.Worlds.{Setup, other, pair_of, first_rows, LinkSide, World, side, same_end}
+use Rattle.book_link.specs.Worlds.{Setup, pair_of, LinkSide, World, side, same_end}
 use Rattle.book_cmd_node.specs.NodeRuns.{NodeState, same_pair}
 use Rattle.book_stack.specs.Calls.{Call, At, Input, Output, Add, Withdraw, CallAnswer, Told, Moves, Knocks, Refuses, Hands, Rests, Adds, Withdraws, NoSuchRow, call}
-use Rattle.book_stack.specs.Stacks.{StackState}
 use Rattle.law_link.proofs.Histories.{run_split}
 use Rattle.law_link.proofs.Sessions.{both}
-use Rattle.law_ends.specs.Doings.{Doing, Twins, stack_of, with_twin, after_doing, twins_from, new_twins}
+use Rattle.law_ends.specs.Doings.{Doing, Twins, stack_of, after_doing, twins_from, new_twins}
 use Rattle.law_ends.specs.Users.{UserSession, after_act, after_call_told, after_doing_told, sessions_from, AreFresh, FreshIsns}
-use Rattle.law_ends.specs.Links.{MirrorsAt, doing_events, link_events_from}
+use Rattle.law_ends.specs.Links.{doing_events, link_events_from}
 use Rattle.law_ends.specs.Ends.{IsPastOfLink}
 use Rattle.law_ends.proofs.Plain.{act_fresh}
-use Rattle.law_ends.proofs.Standing.{Stands, Goes}
+use Rattle.law_ends.proofs.Standing.{Stands}
 use Rattle.law_ends.proofs.Calling.{call_goes}
 
 -- ---- numbers that are fresh were so before

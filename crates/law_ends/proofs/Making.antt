@@ -1,9 +1,9 @@
 -- Which plain events a call makes.
-use Rattle.std.proofs.Common.{◌≡◌, ℕ, zero, suc, ◌/◌, ◌==◌, Bool, true, false, nat_le, List, [], ◌∷◌, ◌++◌, length, Option, Some, None, Ok, Err, if◌then◌else◌, refl}
+use Rattle.std.proofs.Common.{ℕ, zero, suc, ◌/◌, ◌==◌, Bool, true, false, nat_le, List, [], ◌∷◌, ◌++◌, length, Option, Some, None, Ok, Err, if◌then◌else◌}
 use Rattle.std.specs.Prelude.{is_some}
 use Rattle.std.specs.List.{AllByRecursion}
 use Rattle.book_base.specs.declared.address.Pair.{Pair}
-use Rattle.book_segments.specs.Segments.{Segment, Reading, Read, Bad as Unread, reading, pair_reached}
+use Rattle.book_segments.specs.Segments.{Segment, Reading, Read, Bad as Unread, pair_reached}
 use Rattle.book_endpoint.specs.States.{EndState}
 use Rattle.book_endpoint.specs.Verdicts.{Judgement}
 use Rattle.book_cmd_node.specs.declared.node.Act.TheVariants as act

@@ -9,25 +9,24 @@ use Rattle.book_endpoint.specs.declared.phase.Phase.{Phase}
 use Rattle.book_endpoint.specs.declared.phase.Phase.TheVariants.{TimeWait}
 use Rattle.book_endpoint.specs.States.{EndState, is_due, tick_in, tick}
 use Rattle.book_endpoint.specs.Arrivals.{Arrived, arrive}
-use Rattle.book_link.specs.declared.event.Event.{Event}
-use Rattle.book_link.specs.Worlds.{other, Setup, pair_of, Session, LinkSide, World, side, live}
-use Rattle.book_link.specs.Steps.{Act, acted, came, come, ticked, with_clock, view_of}
+use Rattle.book_link.specs.Worlds.{other, Setup, pair_of, Session, World, side, live}
+use Rattle.book_link.specs.Steps.{come, ticked, with_clock, view_of}
 use Rattle.book_link.specs.Runs.{run_from}
 use Rattle.book_cmd_node.specs.declared.node.Act.{Act as NodeAct}
 use Rattle.book_cmd_node.specs.declared.node.Act.TheVariants as act
 use Rattle.book_cmd_node.specs.declared.node.NodeEvent.{NodeEvent}
 use Rattle.book_cmd_node.specs.declared.node.NodeEvent.TheVariants as event
-use Rattle.book_cmd_node.specs.NodeRuns.{Held, NodeState, NodeStep, NodeOutcome, DatagramAnswered, Delivered, called, after_call, arrived_at, injected, held_end, ends_ticked, most_ends, on_pair, same_pair, node_step, node_from, node_outcomes_from}
+use Rattle.book_cmd_node.specs.NodeRuns.{NodeState, NodeStep, NodeOutcome, DatagramAnswered, Delivered, called, arrived_at, injected, held_end, most_ends, same_pair, node_step, node_from, node_outcomes_from}
 use Rattle.law_node.specs.Alone.{is_for, is_mine}
 use Rattle.law_node.proofs.Held.{end_ticked, once_ticked}
 use Rattle.law_node.proofs.Pairs.{same_pair_is}
-use Rattle.law_node.proofs.Steps.{alone, only, end_of_only, once_step, other_step}
+use Rattle.law_node.proofs.Steps.{alone, end_of_only, once_step, other_step}
 use Rattle.law_link.proofs.Histories.{run_split}
 use Rattle.law_link.proofs.Tests.{choose}
-use Rattle.law_ends.specs.Users.{UserSession, at_newest, has_isn, after_act, after_take, was_performed, AreFresh, IsTold, AreTold}
-use Rattle.law_ends.specs.Links.{IsLive, is_refusal, act_events, plain_events, answered_events, events_by}
+use Rattle.law_ends.specs.Users.{UserSession, at_newest, has_isn, after_act, after_take, was_performed, AreFresh, AreTold}
+use Rattle.law_ends.specs.Links.{IsLive, is_refusal, plain_events, answered_events, events_by}
 use Rattle.law_ends.proofs.Stays.{UserPart, part_of, arrive_part}
-use Rattle.law_ends.proofs.Standing.{Stands, Goes, goes_put, goes_still, quiet_goes, keeps_told}
+use Rattle.law_ends.proofs.Standing.{Stands, Goes, goes_put, goes_still, quiet_goes}
 use Rattle.law_ends.proofs.Acting.{act_by}
 
 -- ---- what users know after plain events

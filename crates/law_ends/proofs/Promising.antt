@@ -4,10 +4,9 @@ use Rattle.std.specs.List.{AllByRecursion}
 use Rattle.book_base.specs.declared.end.End.{End}
 use Rattle.book_segments.proofs.Fields.{some_is}
 use Rattle.book_endpoint.specs.States.{EndState, ready, at_end}
-use Rattle.book_link.specs.Runs.{run}
-use Rattle.book_link.specs.Worlds.{other, Setup, pair_of, Session, World, side, find, live, partner, partner_among, forgeries}
+use Rattle.book_link.specs.Worlds.{other, Setup, pair_of, Session, World, side, find, live, partner}
 use Rattle.book_cmd_node.specs.NodeRuns.{held_end}
-use Rattle.law_link.specs.Headline.{IsPrefixOf, ComesFrom, IsWhole, IsReceived, GivesFew, PartnerIsOne}
+use Rattle.law_link.specs.Headline.{IsPrefixOf, ComesFrom, IsWhole, IsReceived, GivesFew}
 use Rattle.law_link.specs.Laws.{SetupFits}
 use Rattle.law_link.specs.Sessions.{ReceivesFrom}
 use Rattle.law_link.proofs.Prefix.{delivers_in_order, ends_whole, shows_ends, acknowledged_was_received}

@@ -1,5 +1,5 @@
 -- A reset comes of an abort at the other end.
-use Rattle.std.proofs.Common.{◌≡◌, ◌⊎◌, inl, inr, ℕ, ◌/◌, Bool, true, false, List, [], ◌∷◌, ◌++◌, Option, Some, None, Ok, Err, if◌then◌else◌, refl, sym, ap, ◌∙◌, subst, append_assoc, append-nil}
+use Rattle.std.proofs.Common.{◌≡◌, inl, inr, ℕ, Bool, true, false, List, [], ◌∷◌, ◌++◌, Option, Some, None, Ok, Err, if◌then◌else◌, refl, sym, ap, ◌∙◌, subst, append_assoc, append-nil}
 use Rattle.std.specs.List.{AllByRecursion}
 use Rattle.book_base.specs.declared.address.Pair.{Pair}
 use Rattle.book_base.specs.declared.end.End.{End}
@@ -10,33 +10,33 @@ use Rattle.book_keys.specs.Rows.{Row}
 use Rattle.book_endpoint.specs.declared.arrival.Arrival.{Arrival}
 use Rattle.book_endpoint.specs.declared.arrival.Arrival.TheVariants.{Reset}
 use Rattle.book_endpoint.specs.States.{EndState}
-use Rattle.book_endpoint.specs.Arrivals.{Arrived, arrive}
+use Rattle.book_endpoint.specs.Arrivals.{arrive}
 use Rattle.book_endpoint.specs.Verdicts.{Judgement}
 use Rattle.book_link.specs.declared.event.Event.{Event}
 use Rattle.book_link.specs.declared.event.Event.TheVariants.{At as AtEnd}
 use Rattle.book_link.specs.declared.event.Action.TheVariants as action
-use Rattle.book_link.specs.Worlds.{Setup, other, pair_of, Session, LinkSide, Came, Happening, Coming, World, side, live, find, forgeries}
-use Rattle.book_link.specs.Steps.{Act, add, put, with_sessions, acted, act_on, come, step, view_of}
-use Rattle.book_link.specs.Runs.{empty, run, run_from}
+use Rattle.book_link.specs.Worlds.{Setup, other, pair_of, Session, LinkSide, Came, Happening, Coming, World, side, live, forgeries}
+use Rattle.book_link.specs.Steps.{put, with_sessions, acted, act_on, come, step, view_of}
+use Rattle.book_link.specs.Runs.{empty, run_from}
 use Rattle.book_cmd_node.specs.declared.node.NodeEvent.{NodeEvent}
 use Rattle.book_cmd_node.specs.declared.node.NodeEvent.TheVariants as event
-use Rattle.book_cmd_node.specs.NodeRuns.{NodeState, NodeOutcome, DatagramAnswered, held_end, most_ends, node_step, node_from, node_outcomes_from}
-use Rattle.book_stack.specs.Calls.{Input, Output, Incoming, Did, CallAnswer, Told, Rests, answer_moving, asked_for, bytes_received, call, heard_end, heard_pair, met}
+use Rattle.book_cmd_node.specs.NodeRuns.{NodeState, NodeOutcome, DatagramAnswered, held_end, most_ends, node_step, node_outcomes_from}
+use Rattle.book_stack.specs.Calls.{Input, Output, Incoming, Did, Rests, answer_moving, asked_for, bytes_received, call, heard_pair, met}
 use Rattle.book_stack.specs.Stacks.{StackState, asking_judged, asks}
 use Rattle.book_stack.specs.Turns.{Turn, clocked}
 use Rattle.law_node.specs.Alone.{is_for}
 use Rattle.law_node.proofs.Pairs.{same_pair_is}
 use Rattle.law_stack.proofs.Turned.{clocked_plain}
-use Rattle.law_link.specs.Laws.{SetupFits, EventFits, Arrives, PartnerAborted}
+use Rattle.law_link.specs.Laws.{SetupFits, Arrives, PartnerAborted}
 use Rattle.law_link.proofs.Histories.{run_split}
 use Rattle.law_link.proofs.Invariant.{Inv}
 use Rattle.law_link.proofs.Origin.{resets_by_abort}
 use Rattle.law_link.proofs.Partners.{partner_is_one}
 use Rattle.law_link.proofs.Running.{run_inv}
 use Rattle.law_ends.specs.Doings.{Doing, DoingFits, CallFits, Twins, stack_of, after_doing, twins, twins_from, new_twins}
-use Rattle.law_ends.specs.Users.{UserSession, user_sessions, sessions_from, FreshIsns, AreFresh, IsTold, AreTold}
-use Rattle.law_ends.specs.Links.{IsLive, answered_events, events_by, did_events, doing_events, link_events_from, link_events}
-use Rattle.law_ends.specs.Ends.{past, OneIs, TellsReset, ResetByAbort}
+use Rattle.law_ends.specs.Users.{UserSession, user_sessions, FreshIsns, AreTold}
+use Rattle.law_ends.specs.Links.{IsLive, answered_events, events_by, doing_events, link_events_from, link_events}
+use Rattle.law_ends.specs.Ends.{past, TellsReset, ResetByAbort}
 use Rattle.law_ends.proofs.Calling.{IsQuiet, quiet_told, plain_goes}
 use Rattle.law_ends.proofs.Fitting.{PlainFits, joined_fit, events_fit, events_fit_all}
 use Rattle.law_ends.proofs.Going.{BothStand, begins_stand, doings_go}

@@ -7,7 +7,7 @@ use Rattle.book_segments.proofs.Fields.{some_is}
 use Rattle.book_keys.specs.Rows.{Row}
 use Rattle.book_endpoint.specs.States.{EndState}
 use Rattle.book_link.specs.Worlds.{other, Session, LinkSide, Happening, World, side, find, live}
-use Rattle.book_link.specs.Steps.{Act, put, with_sessions, acted, act_on, begin, begin_new, Stepped}
+use Rattle.book_link.specs.Steps.{Act, put, with_sessions, acted, act_on, begin, begin_new}
 use Rattle.book_cmd_node.specs.NodeRuns.{NodeState, NodeOutcome, Called, called, after_call, held_end}
 use Rattle.law_node.proofs.Held.{held, IsOnce, end_with_same, end_pushed_same, once_with, once_pushed}
 use Rattle.law_ends.specs.Users.{UserSession, new_session, at_newest, has_isn, AreFresh, IsTold, AreTold}

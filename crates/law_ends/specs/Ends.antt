@@ -6,7 +6,7 @@ use Rattle.book_segments.specs.Segments.{reading}
 use Rattle.book_endpoint.specs.declared.arrival.Arrival.TheVariants.{Reset}
 use Rattle.book_endpoint.specs.States.{EndState, ready, at_end}
 use Rattle.book_link.specs.Runs.{run}
-use Rattle.book_link.specs.Worlds.{other, Setup, pair_of, Session, World, partner, forgeries}
+use Rattle.book_link.specs.Worlds.{other, Setup, pair_of, World, partner, forgeries}
 use Rattle.book_cmd_node.specs.NodeRuns.{DatagramAnswered, held_end}
 use Rattle.book_stack.specs.Calls.{CallAnswer, Told, Moves, Input, Incoming, call}
 use Rattle.law_node.specs.Alone.{is_for}
