@@ -8,3 +8,4 @@ mod Promising
 mod Resetting
 mod Standing
 mod Stays
+mod Worked

@@ -2,3 +2,4 @@ pub mod Doings
 pub mod Users
 pub mod Links
 pub mod Ends
+pub mod Delivered

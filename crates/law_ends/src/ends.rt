@@ -2,11 +2,13 @@
 ghost use Rattle.std.specs.Prelude.{ℕ, List};
 ghost use Rattle.std.specs.List.{AllByRecursion};
 ghost use Rattle.book_base.specs.declared.end.End.{End};
+ghost use Rattle.book_link.specs.Storm.{storm_setup};
 ghost use Rattle.book_link.specs.Worlds.{Setup};
 ghost use Rattle.book_stack.specs.Calls.{Incoming};
 ghost use Rattle.law_link.specs.Laws.{SetupFits};
 ghost use Rattle.law_ends.specs.Doings.{Doing, DoingFits};
 ghost use Rattle.law_ends.specs.Users.{FreshIsns};
+ghost use Rattle.law_ends.specs.Delivered.{Delivers};
 ghost use Rattle.law_ends.specs.Ends.{HeldInOrder, ToldInOrder, HeldIsPartners, HeldEndsWhole, ToldEndsWhole, HeldIsReceived, ResetByAbort};
 
 /// Where no forgery is counted, what takes delivered at an end, and then what is ready there, begins
@@ -46,4 +48,12 @@ pub fn acknowledged_was_received()
 pub fn resets_come_of_aborts()
     ensures { (setup : Setup) (most : End → ℕ) (doings : List Doing) (e : End) (coming : Incoming) → SetupFits setup → AllByRecursion DoingFits doings → FreshIsns setup most doings
         → ResetByAbort setup most doings e coming }
+{}
+
+/// The premises are met, and the laws aren't empty: two stacks with one HMAC-SHA-1 key, of which one
+/// opens and the other listens, hear in order all that the other hands out, a SYN, a SYN with ACK and a
+/// byte; no forgery is counted; each holds an end that knows the other's number as its peer's; and the
+/// byte that was given to one of them is delivered by a take at the other.
+pub fn is_met()
+    ensures { (doings : List Doing) × Delivers storm_setup (λ e. 1) doings }
 {}

@@ -7,7 +7,7 @@ mod ends;
 mod mirror;
 
 pub use ends::{
-    acknowledged_was_received, bytes_are_the_partners, bytes_come_in_order, resets_come_of_aborts,
-    streams_end_whole,
+    acknowledged_was_received, bytes_are_the_partners, bytes_come_in_order, is_met,
+    resets_come_of_aborts, streams_end_whole,
 };
 pub use mirror::the_past_of_two_stacks_is_the_past_of_a_link;
