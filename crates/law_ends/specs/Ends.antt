@@ -44,6 +44,25 @@ abbrev pub HeldInOrder : Setup → (End → ℕ) → List Doing → Type 0
 HeldInOrder setup most doings = IsUnforged setup most doings → (e : End) (u : EndState) → IsHeld setup most doings e u
     → ComesFrom (partner (past setup most doings) e u) (u.taken ++ ready u)
 
+-- the bytes are none, or they begin what was given in the session of the other end whose initial sequence number the end
+-- that is held knows as its peer's (RFC 9293, section 2.2)
+abbrev pub BeginsPartners : List UserSession → EndState → List ℕ → Type 0
+BeginsPartners others u bytes = (bytes ≡ []) ⊎ OneIs (λ (v : UserSession). (u.peer_isn ≡ Some v.isn) × IsPrefixOf bytes v.gave) others
+
+-- the newest session of a user is that of the end that is held, and so are the bytes that takes delivered in it, and then
+-- those that are ready (own)
+pub record LiveInOrder (us others : List UserSession) (u : EndState) : Type 0 where
+  pub newest : UserSession
+  pub older : List UserSession
+  pub is : us ≡ newest ∷ older
+  pub isn : newest.isn ≡ u.isn
+  pub begins : BeginsPartners others u (newest.took ++ ready u)
+
+-- where no forgery is counted it is so of each end that is held (own)
+abbrev pub LiveIsInOrder : Setup → (End → ℕ) → List Doing → Type 0
+LiveIsInOrder setup most doings = IsUnforged setup most doings → (e : End) (u : EndState) → IsHeld setup most doings e u
+    → LiveInOrder (user_sessions setup most doings e) (user_sessions setup most doings (other e)) u
+
 -- in the answers alone: what takes delivered in a session is nothing, or begins what was given in a session of the other
 -- end (RFC 9293, section 2.2)
 abbrev pub TookInOrder : List UserSession → UserSession → Type 0

@@ -9,14 +9,16 @@ ghost use Rattle.law_link.specs.Laws.{SetupFits};
 ghost use Rattle.law_ends.specs.Doings.{Doing, DoingFits};
 ghost use Rattle.law_ends.specs.Users.{FreshIsns};
 ghost use Rattle.law_ends.specs.Delivered.{Delivers};
-ghost use Rattle.law_ends.specs.Ends.{HeldInOrder, ToldInOrder, HeldIsPartners, HeldEndsWhole, ToldEndsWhole, HeldIsReceived, ResetByAbort};
+ghost use Rattle.law_ends.specs.Ends.{LiveIsInOrder, HeldInOrder, ToldInOrder, HeldIsPartners, HeldEndsWhole, ToldEndsWhole, HeldIsReceived, ResetByAbort};
 
-/// Where no forgery is counted, what takes delivered at an end, and then what is ready there, begins
-/// what was given at its partner: the session of the other end that knows its initial sequence number
-/// and whose initial sequence number it knows. An end without a partner delivers nothing. `told` says
-/// it in the answers of calls alone, of each session of each end, the removed ones among them: what
-/// takes delivered is nothing, or begins what was given in a session of the other end.
+/// Where no forgery is counted, what takes delivered in the session of an end that its stack holds, and
+/// then what is ready there, begins what was given in the session of the other end whose initial
+/// sequence number it knows as its peer's; without such a session there is neither. `live` says it in
+/// the answers of calls; `held` says it of the state of the end and of its partner among the sessions
+/// of the link. `told` says it of each session of each end, the removed ones among them: what takes
+/// delivered is nothing, or begins what was given in a session of the other end.
 pub fn bytes_come_in_order()
+    ensures live { (setup : Setup) (most : End → ℕ) (doings : List Doing) → SetupFits setup → AllByRecursion DoingFits doings → FreshIsns setup most doings → LiveIsInOrder setup most doings }
     ensures held { (setup : Setup) (most : End → ℕ) (doings : List Doing) → SetupFits setup → AllByRecursion DoingFits doings → FreshIsns setup most doings → HeldInOrder setup most doings }
     ensures told { (setup : Setup) (most : End → ℕ) (doings : List Doing) → SetupFits setup → AllByRecursion DoingFits doings → FreshIsns setup most doings → ToldInOrder setup most doings }
 {}
