@@ -15,7 +15,7 @@ use Rattle.law_link.proofs.Partners.{partner_is_one}
 use Rattle.law_ends.specs.Doings.{Doing, DoingFits, stack_of, twins}
 use Rattle.law_ends.specs.Users.{UserSession, user_sessions, FreshIsns, IsTold, AreTold}
 use Rattle.law_ends.specs.Links.{IsLive, link_events}
-use Rattle.law_ends.specs.Ends.{BeginsPartners, LiveInOrder, LiveIsInOrder, past, OneIs, HeldInOrder, TookInOrder, ToldInOrder, HeldIsPartners, HeldEndsWhole, TookWhole, ToldEndsWhole, GaveFew, HeldIsReceived}
+use Rattle.law_ends.specs.Ends.{BeginsPartners, IsAllOfPartners, LiveInOrder, LiveEndsWhole, NewestTook, past, OneIs, HeldInOrder, TookInOrder, ToldInOrder, HeldIsPartners, HeldEndsWhole, TookWhole, ToldEndsWhole, GaveFew, HeldIsReceived}
 use Rattle.law_ends.proofs.Fitting.{events_fit_all}
 use Rattle.law_ends.proofs.Going.{is_past}
 
@@ -60,19 +60,18 @@ prefix_first : (xs ys zs : List ℕ) → IsPrefixOf (xs ++ ys) zs → IsPrefixOf
 prefix_first xs ys zs h = (ys ++ h.0, sym (append_assoc xs ys h.0) ∙ h.1)
 
 -- the session of the end that is held is its user's newest
-live_order : (sessions : List Session) (us others : List UserSession) (u : EndState) → AreTold sessions us → IsLive (Some u) (live sessions) → BeginsPartners others u (u.taken ++ ready u) → LiveInOrder us others u
-live_order [] us others u told h begins = let none = h.1 in absurd (cc)
-live_order (s ∷ rest) [] others u told h begins = absurd told
-live_order (s ∷ rest) (x ∷ xs) others u told h begins =
+newest_took : (P : List ℕ → Type 0) (sessions : List Session) (us : List UserSession) (u : EndState) → AreTold sessions us → IsLive (Some u) (live sessions) → P u.taken → NewestTook us u P
+newest_took P [] us u told h holds = let none = h.1 in absurd (cc)
+newest_took P (s ∷ rest) [] u told h holds = absurd told
+newest_took P (s ∷ rest) (x ∷ xs) u told h holds =
     let same : s.state ≡ u = ap (λ (y : Session). y.state) (some_is s h.0 h.1) ∙ h.2 in
     let k = told.0 in
-    let took : u.taken ≡ x.took = ap (λ (y : EndState). y.taken) (sym same) ∙ k.took in
     record {
       newest = x;
       older = xs;
       is = refl;
       isn = sym k.isn ∙ ap (λ (y : EndState). y.isn) same;
-      begins = subst (λ (l : List ℕ). BeginsPartners others u (l ++ ready u)) took begins;
+      took = subst P (ap (λ (y : EndState). y.taken) (sym same) ∙ k.took) holds;
     }
 
 module _ (setup : Setup) (most : End → ℕ) (doings : List Doing) (fits : SetupFits setup) (all : AllByRecursion DoingFits doings) (fresh : FreshIsns setup most doings) where
@@ -100,9 +99,10 @@ module _ (setup : Setup) (most : End → ℕ) (doings : List Doing) (fits : Setu
       inr (partners_told (λ v. (u.peer_isn ≡ Some v.isn) × IsPrefixOf (u.taken ++ ready u) v.gave) e u t is (λ v k.
       (here ∙ ap (λ (n : ℕ). Some n) k.isn, subst (λ (l : List ℕ). IsPrefixOf (u.taken ++ ready u) l) k.gave h)))
 
-  pub live_in_order : LiveIsInOrder setup most doings
+  pub live_in_order : LiveInOrder setup most doings
   live_in_order unforged e u held =
-      live_order (side w e).sessions (user_sessions setup most doings e) (user_sessions setup most doings (other e)) u (told_at e) (live_at e u held) (begins_by e u (partner w e u) refl (held_in_order unforged e u held))
+      newest_took (λ took. BeginsPartners (user_sessions setup most doings (other e)) u (took ++ ready u)) (side w e).sessions (user_sessions setup most doings e) u (told_at e) (live_at e u held)
+      (begins_by e u (partner w e u) refl (held_in_order unforged e u held))
 
   took_by : (e : End) (s : Session) (u : UserSession) (o : Option Session) → partner w e s.state ≡ o → IsTold s u → ComesFrom o (s.state.taken ++ ready s.state) → TookInOrder (user_sessions setup most doings (other e)) u
   took_by e s u None is told h = inl (sym told.took ∙ prefix_nothing s.state.taken (ready s.state) h)
@@ -122,6 +122,17 @@ module _ (setup : Setup) (most : End → ℕ) (doings : List Doing) (fits : Setu
   pub held_ends_whole : HeldEndsWhole setup most doings
   held_ends_whole unforged e u held =
       of_live (λ (s : EndState). at_end s ≡ true → IsWhole (partner w e s) s.taken) (side w e).sessions u (live_at e u held) (ends_whole setup fits (link_events setup most doings) (events_fit_all setup most doings all) unforged e)
+
+  all_by : (e : End) (u : EndState) (o : Option Session) → partner w e u ≡ o → IsWhole o u.taken → IsAllOfPartners (user_sessions setup most doings (other e)) u u.taken
+  all_by e u None is h = absurd h
+  all_by e u (Some t) is h =
+      let here = (partner_is_one w e u t is).0.here in
+      partners_told (λ v. (u.peer_isn ≡ Some v.isn) × (v.closed ≡ true) × (u.taken ≡ v.gave)) e u t is (λ v k. (here ∙ ap (λ (n : ℕ). Some n) k.isn, k.closed h.0, h.1 ∙ k.gave))
+
+  pub live_ends_whole : LiveEndsWhole setup most doings
+  live_ends_whole unforged e u held ends =
+      newest_took (IsAllOfPartners (user_sessions setup most doings (other e)) u) (side w e).sessions (user_sessions setup most doings e) u (told_at e) (live_at e u held)
+      (all_by e u (partner w e u) refl (held_ends_whole unforged e u held ends))
 
   whole_by : (e : End) (s : Session) (u : UserSession) (o : Option Session) → partner w e s.state ≡ o → IsTold s u → (s.end_shown ≡ true → IsWhole o s.state.taken) → TookWhole (user_sessions setup most doings (other e)) u
   whole_by e s u None is told h ended = absurd (h (told.ended ∙ ended))

@@ -1,5 +1,6 @@
 -- A reset comes of an abort at the other end.
-use Rattle.std.proofs.Common.{◌≡◌, inl, inr, ℕ, Bool, true, false, List, [], ◌∷◌, ◌++◌, Option, Some, None, Ok, Err, if◌then◌else◌, refl, sym, ap, ◌∙◌, subst, append_assoc, append-nil}
+use Rattle.std.proofs.Common.{◌≡◌, inl, inr, ℕ, ◌/◌, ◌==◌, Bool, true, false, List, [], ◌∷◌, ◌++◌, Option, Some, None, Ok, Err, if◌then◌else◌, refl, sym, ap, ◌∙◌, subst, append_assoc, append-nil}
+use Rattle.std.specs.Prelude.{option_map}
 use Rattle.std.specs.List.{AllByRecursion}
 use Rattle.book_base.specs.declared.address.Pair.{Pair}
 use Rattle.book_base.specs.declared.end.End.{End}
@@ -9,7 +10,9 @@ use Rattle.book_segments.proofs.Fields.{some_is}
 use Rattle.book_keys.specs.Rows.{Row}
 use Rattle.book_endpoint.specs.declared.arrival.Arrival.{Arrival}
 use Rattle.book_endpoint.specs.declared.arrival.Arrival.TheVariants.{Reset}
-use Rattle.book_endpoint.specs.States.{EndState}
+use Rattle.book_endpoint.specs.declared.phase.Phase.{Phase}
+use Rattle.book_endpoint.specs.declared.phase.Phase.TheVariants.{TimeWait}
+use Rattle.book_endpoint.specs.States.{EndState, is_due, tick, tick_in}
 use Rattle.book_endpoint.specs.Arrivals.{arrive}
 use Rattle.book_endpoint.specs.Verdicts.{Judgement}
 use Rattle.book_link.specs.declared.event.Event.{Event}
@@ -23,12 +26,14 @@ use Rattle.book_cmd_node.specs.declared.node.NodeEvent.TheVariants as event
 use Rattle.book_cmd_node.specs.NodeRuns.{NodeState, NodeOutcome, DatagramAnswered, held_end, most_ends, node_step, node_outcomes_from}
 use Rattle.book_stack.specs.Calls.{Input, Output, Incoming, Did, Rests, answer_moving, asked_for, bytes_received, call, heard_pair, met}
 use Rattle.book_stack.specs.Stacks.{StackState, asking_judged, asks}
-use Rattle.book_stack.specs.Turns.{Turn, clocked}
+use Rattle.book_stack.specs.Turns.{Turn, clocked, passing}
 use Rattle.law_node.specs.Alone.{is_for}
+use Rattle.law_node.proofs.Held.{end_ticked}
 use Rattle.law_node.proofs.Pairs.{same_pair_is}
-use Rattle.law_stack.proofs.Turned.{clocked_plain}
+use Rattle.law_stack.proofs.Turned.{clocked_anew, clocked_plain}
 use Rattle.law_link.specs.Laws.{SetupFits, Arrives, PartnerAborted}
 use Rattle.law_link.proofs.Histories.{run_split}
+use Rattle.law_link.proofs.Tests.{choose}
 use Rattle.law_link.proofs.Invariant.{Inv}
 use Rattle.law_link.proofs.Origin.{resets_by_abort}
 use Rattle.law_link.proofs.Partners.{partner_is_one}
@@ -118,6 +123,7 @@ record CameTo (setup : Setup) (w : World) (e : End) (bytes : List ℕ) (u : EndS
   pub at : came.at ≡ e
   pub session : Session
   pub lives : live (side w e).sessions ≡ Some session
+  pub state : session.state ≡ u
   pub history : (act_on w e (side w e).sessions (come bytes (view_of setup w e))).world.history ≡ Coming came ∷ w.history
   pub answer : came.answer ≡ (arrive (side w e).rows (pair_of setup e) (side w e).clock u (reading bytes)).answer
 
@@ -137,6 +143,7 @@ comes_to setup w e bytes u (s ∷ rest) is h =
       at = refl;
       session = s;
       lives = ap live is;
+      state = same;
       history = ap (λ (l : List Session). (act_on w e l (come bytes v)).world.history) is ∙ put_history w e (with_sessions (side w e) (acted s (come bytes v s.state) ∷ rest)) (Coming k);
       answer = ap (λ (x : EndState). (arrive (side w e).rows (pair_of setup e) (side w e).clock x (reading bytes)).answer) same;
     }
@@ -146,6 +153,24 @@ same_answer : (setup : Setup) (l : LinkSide) (e : End) (rows : List Row) (n : No
     → (arrive l.rows (pair_of setup e) l.clock u r).answer ≡ (arrive rows (pair_of setup e) n.clock u r).answer
 same_answer setup l e rows n us u r h =
     ap (λ (x : List Row). (arrive x (pair_of setup e) l.clock u r).answer) h.rows_are ∙ ap (λ (x : ℕ). (arrive rows (pair_of setup e) x u r).answer) h.clock_is
+
+-- ---- the clock
+
+tick_peer : (s : EndState) (now : ℕ) (phase : Phase) → (tick_in phase now s).peer_isn ≡ s.peer_isn
+tick_peer s now TimeWait = choose (λ (x : EndState). x.peer_isn ≡ s.peer_isn) (is_due s.deadline now) _ s (λ t. refl) (λ t. refl)
+tick_peer s now _ = refl
+
+ticked_end : (now : ℕ) (o : Option EndState) (x : EndState) → option_map (tick now) o ≡ Some x → (u : EndState) × (o ≡ Some u) × (u.peer_isn ≡ x.peer_isn)
+ticked_end now None x e = absurd (cc)
+ticked_end now (Some u) x e = (u, refl, sym (tick_peer u now u.phase) ∙ ap (λ (y : EndState). y.peer_isn) (some_is (tick now u) x e))
+
+-- an end that is held after the clock went on was held before
+held_before : (pair : Pair) (now : ℕ) (s : StackState) (x : EndState) → held_end pair (clocked now s).stack.node.ends ≡ Some x → (u : EndState) × (held_end pair s.node.ends ≡ Some u) × (u.peer_isn ≡ x.peer_isn)
+held_before pair now s x = at (s.node.clock == now / 1000)
+  where
+    at : (v : Bool) → (let t : Turn = if v then passing s else clocked_anew now s in held_end pair t.stack.node.ends ≡ Some x) → (u : EndState) × (held_end pair s.node.ends ≡ Some u) × (u.peer_isn ≡ x.peer_isn)
+    at true e = (x, e, refl)
+    at false e = ticked_end (now / 1000) (held_end pair s.node.ends) x (sym (end_ticked pair (now / 1000) s.node.ends) ∙ e)
 
 -- ---- the law
 
@@ -237,7 +262,13 @@ module _ (setup : Setup) (most : End → ℕ) (doings : List Doing) (e : End) (c
       let none : forgeries (step setup w1 injected).world.history ≡ 0 = ap (λ (x : World). forgeries x.history) (sym (world_is mine heard)) ∙ unforged in
       let at_once = resets_by_abort setup fits w1 injected f.1 (inv1 f) none came.came arrives answer in
       let aborts : PartnerAborted w1 e came.session.state = subst (λ (x : End). PartnerAborted w1 x came.session.state) came.at at_once in
-      let found = (partner_is_one w1 e came.session.state aborts.session aborts.is_partner).1 in
+      let one = partner_is_one w1 e came.session.state aborts.session aborts.is_partner in
+      let before = held_before (pair_of setup e) coming.now s heard.end heard.held in
+      let peer : (before.0).peer_isn ≡ Some aborts.session.state.isn = before.2 ∙ ap (λ (x : EndState). x.peer_isn) (sym came.state) ∙ one.0.here in
       let others = user_sessions setup most doings (other e) in
-      let told : AreTold (side w1 (other e)).sessions others = subst (λ (l : LinkSide). AreTold l.sessions others) (sym ticked.there) (stood.at (other e)).told in
-      one_found (λ (v : UserSession). v.aborted ≡ true) (side w1 (other e)).sessions others aborts.session.state.isn aborts.session told found (λ v k. sym k.aborted ∙ aborts.aborted)
+      let told : AreTold (side w1 (other e)).sessions others = subst (λ (l : LinkSide). AreTold l.sessions others) (sym ticked.there) (stood.at (other e)).told in (
+        before.0,
+        before.1,
+        one_found (λ (v : UserSession). ((before.0).peer_isn ≡ Some v.isn) × (v.aborted ≡ true)) (side w1 (other e)).sessions others aborts.session.state.isn aborts.session told one.1
+            (λ v k. (peer ∙ ap (λ (n : ℕ). Some n) k.isn, sym k.aborted ∙ aborts.aborted)),
+      )

@@ -49,19 +49,19 @@ HeldInOrder setup most doings = IsUnforged setup most doings → (e : End) (u : 
 abbrev pub BeginsPartners : List UserSession → EndState → List ℕ → Type 0
 BeginsPartners others u bytes = (bytes ≡ []) ⊎ OneIs (λ (v : UserSession). (u.peer_isn ≡ Some v.isn) × IsPrefixOf bytes v.gave) others
 
--- the newest session of a user is that of the end that is held, and so are the bytes that takes delivered in it, and then
--- those that are ready (own)
-pub record LiveInOrder (us others : List UserSession) (u : EndState) : Type 0 where
+-- the newest session of a user is that of the end that is held, and this holds of what takes delivered in it (own)
+pub record NewestTook (us : List UserSession) (u : EndState) (P : List ℕ → Type 0) : Type 0 where
   pub newest : UserSession
   pub older : List UserSession
   pub is : us ≡ newest ∷ older
   pub isn : newest.isn ≡ u.isn
-  pub begins : BeginsPartners others u (newest.took ++ ready u)
+  pub took : P newest.took
 
--- where no forgery is counted it is so of each end that is held (own)
-abbrev pub LiveIsInOrder : Setup → (End → ℕ) → List Doing → Type 0
-LiveIsInOrder setup most doings = IsUnforged setup most doings → (e : End) (u : EndState) → IsHeld setup most doings e u
-    → LiveInOrder (user_sessions setup most doings e) (user_sessions setup most doings (other e)) u
+-- where no forgery is counted: what takes delivered in the session of the end that is held, and then what is ready there,
+-- begins what its partner was given, in the answers alone (RFC 9293, section 2.2)
+abbrev pub LiveInOrder : Setup → (End → ℕ) → List Doing → Type 0
+LiveInOrder setup most doings = IsUnforged setup most doings → (e : End) (u : EndState) → IsHeld setup most doings e u
+    → NewestTook (user_sessions setup most doings e) u (λ took. BeginsPartners (user_sessions setup most doings (other e)) u (took ++ ready u))
 
 -- in the answers alone: what takes delivered in a session is nothing, or begins what was given in a session of the other
 -- end (RFC 9293, section 2.2)
@@ -84,6 +84,19 @@ HeldIsPartners setup most doings = IsUnforged setup most doings → (e : End) (u
 abbrev pub HeldEndsWhole : Setup → (End → ℕ) → List Doing → Type 0
 HeldEndsWhole setup most doings = IsUnforged setup most doings → (e : End) (u : EndState) → IsHeld setup most doings e u
     → at_end u ≡ true → IsWhole (partner (past setup most doings) e u) u.taken
+
+-- the bytes are all that was given in the session of the other end whose initial sequence number the end that is held knows
+-- as its peer's, and close was called in it (RFC 9293, section 3.6)
+abbrev pub IsAllOfPartners : List UserSession → EndState → List ℕ → Type 0
+IsAllOfPartners others u bytes =
+    OneIs (λ (v : UserSession). (u.peer_isn ≡ Some v.isn) × (v.closed ≡ true) × (bytes ≡ v.gave)) others
+
+-- where no forgery is counted: the end that is held is at the end of its stream only where its partner was closed and takes
+-- delivered all that was given to it, in the answers alone (RFC 9293, section 3.6)
+abbrev pub LiveEndsWhole : Setup → (End → ℕ) → List Doing → Type 0
+LiveEndsWhole setup most doings = IsUnforged setup most doings → (e : End) (u : EndState) → IsHeld setup most doings e u
+    → at_end u ≡ true
+    → NewestTook (user_sessions setup most doings e) u (IsAllOfPartners (user_sessions setup most doings (other e)) u)
 
 -- in the answers alone: a take told the end of the stream only where a session of the other end was closed in which was
 -- given what takes delivered, and no more (RFC 9293, section 3.6)
@@ -109,10 +122,11 @@ HeldIsReceived setup most doings = IsUnforged setup most doings → GaveFew setu
 abbrev pub TellsReset : CallAnswer → Type 0
 TellsReset answer = (answer ≡ Told (DatagramAnswered Reset)) ⊎ (answer ≡ Moves (DatagramAnswered Reset))
 
--- where no forgery is counted: a datagram of the link's pair resets the connection only where abort was called in a session
--- of the other end before (RFC 9293, section 3.10.5)
+-- where no forgery is counted: a datagram of the link's pair resets the end that is held only where abort was called before
+-- in the session of the other end whose initial sequence number it knows as its peer's (RFC 9293, section 3.10.5)
 abbrev pub ResetByAbort : Setup → (End → ℕ) → List Doing → (e : End) → Incoming → Type 0
 ResetByAbort setup most doings e coming = CallFits (Input coming) → is_for (pair_of setup e) (reading coming.bytes) ≡ true
     → TellsReset (call (Input coming) (stack_of (twins setup most doings) e)).answer
     → IsUnforged setup most (doings ++ record { end = e; what = Input coming } ∷ [])
-    → OneIs (λ (v : UserSession). v.aborted ≡ true) (user_sessions setup most doings (other e))
+    → (u : EndState) × IsHeld setup most doings e u
+    × OneIs (λ (v : UserSession). (u.peer_isn ≡ Some v.isn) × (v.aborted ≡ true)) (user_sessions setup most doings (other e))

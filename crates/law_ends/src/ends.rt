@@ -9,7 +9,7 @@ ghost use Rattle.law_link.specs.Laws.{SetupFits};
 ghost use Rattle.law_ends.specs.Doings.{Doing, DoingFits};
 ghost use Rattle.law_ends.specs.Users.{FreshIsns};
 ghost use Rattle.law_ends.specs.Delivered.{Delivers};
-ghost use Rattle.law_ends.specs.Ends.{LiveIsInOrder, HeldInOrder, ToldInOrder, HeldIsPartners, HeldEndsWhole, ToldEndsWhole, HeldIsReceived, ResetByAbort};
+ghost use Rattle.law_ends.specs.Ends.{LiveInOrder, HeldInOrder, ToldInOrder, HeldIsPartners, LiveEndsWhole, HeldEndsWhole, ToldEndsWhole, HeldIsReceived, ResetByAbort};
 
 /// Where no forgery is counted, what takes delivered in the session of an end that its stack holds, and
 /// then what is ready there, begins what was given in the session of the other end whose initial
@@ -18,7 +18,7 @@ ghost use Rattle.law_ends.specs.Ends.{LiveIsInOrder, HeldInOrder, ToldInOrder, H
 /// of the link. `told` says it of each session of each end, the removed ones among them: what takes
 /// delivered is nothing, or begins what was given in a session of the other end.
 pub fn bytes_come_in_order()
-    ensures live { (setup : Setup) (most : End → ℕ) (doings : List Doing) → SetupFits setup → AllByRecursion DoingFits doings → FreshIsns setup most doings → LiveIsInOrder setup most doings }
+    ensures live { (setup : Setup) (most : End → ℕ) (doings : List Doing) → SetupFits setup → AllByRecursion DoingFits doings → FreshIsns setup most doings → LiveInOrder setup most doings }
     ensures held { (setup : Setup) (most : End → ℕ) (doings : List Doing) → SetupFits setup → AllByRecursion DoingFits doings → FreshIsns setup most doings → HeldInOrder setup most doings }
     ensures told { (setup : Setup) (most : End → ℕ) (doings : List Doing) → SetupFits setup → AllByRecursion DoingFits doings → FreshIsns setup most doings → ToldInOrder setup most doings }
 {}
@@ -30,11 +30,13 @@ pub fn bytes_are_the_partners()
     ensures { (setup : Setup) (most : End → ℕ) (doings : List Doing) → SetupFits setup → AllByRecursion DoingFits doings → FreshIsns setup most doings → HeldIsPartners setup most doings }
 {}
 
-/// Where no forgery is counted, an end is at the end of its stream only where close was called at its
-/// partner and the bytes that were taken are all that were given there. `told` says it in the answers
-/// of calls alone: a take tells the end only where a session of the other end was closed, and what
+/// Where no forgery is counted, an end that is held is at the end of its stream only where close was
+/// called at its partner and what takes delivered is all that was given there: `live` in the answers
+/// of calls, `held` of the end and its partner among the sessions of the link. `told` says it of each
+/// session of each end: a take told the end only where a session of the other end was closed, and what
 /// takes delivered is all that was given in it.
 pub fn streams_end_whole()
+    ensures live { (setup : Setup) (most : End → ℕ) (doings : List Doing) → SetupFits setup → AllByRecursion DoingFits doings → FreshIsns setup most doings → LiveEndsWhole setup most doings }
     ensures held { (setup : Setup) (most : End → ℕ) (doings : List Doing) → SetupFits setup → AllByRecursion DoingFits doings → FreshIsns setup most doings → HeldEndsWhole setup most doings }
     ensures told { (setup : Setup) (most : End → ℕ) (doings : List Doing) → SetupFits setup → AllByRecursion DoingFits doings → FreshIsns setup most doings → ToldEndsWhole setup most doings }
 {}
@@ -46,7 +48,8 @@ pub fn acknowledged_was_received()
 {}
 
 /// Where no forgery is counted, a call that hears a datagram of the pair answers that it reset the
-/// connection only where abort was called in a session of the other end before.
+/// connection only where an end is held, and abort was called before in the session of the other end
+/// whose initial sequence number that end knows as its peer's.
 pub fn resets_come_of_aborts()
     ensures { (setup : Setup) (most : End → ℕ) (doings : List Doing) (e : End) (coming : Incoming) → SetupFits setup → AllByRecursion DoingFits doings → FreshIsns setup most doings
         → ResetByAbort setup most doings e coming }
