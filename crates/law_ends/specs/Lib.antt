@@ -1,0 +1,5 @@
+pub mod Doings
+pub mod Users
+pub mod Links
+pub mod Ends
+pub mod Delivered
