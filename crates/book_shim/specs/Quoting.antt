@@ -72,8 +72,7 @@ notice b =
     if slice_index b 0 / 16 == 4 then v4_notice b
     else if slice_index b 0 / 16 == 6 then v6_notice b else Unread
 
--- a datagram is kept from the own kernel: one that isn't read, and an error about a pair for which
--- there are rows (RFC 5925, section 7.8, and own)
+-- it is kept from the own kernel: unread, or about a pair that has a row (RFC 5925, section 7.8)
 abbrev pub is_ignored : (rows : Pair → List Row) → Notice → Bool
 is_ignored rows Unread = true
 is_ignored rows Other = false
