@@ -17,11 +17,12 @@ use Rattle.book_keys.specs.Rows.{Row}
 use Rattle.book_keys.specs.Coordination.{Sending}
 use Rattle.book_endpoint.specs.Emissions.{ao_length, written_ao, no_mac}
 use Rattle.book_shim.specs.Relaying.{fitted, relaid, with_area, length_in_header, going}
-use Rattle.book_shim.specs.Leaving.{signs, ao_last, with_ao, input_for, code_for}
+use Rattle.book_shim.specs.Leaving.{signs, ao_last, as_sent, with_ao, input_for, code_for}
 use Rattle.law_shim.proofs.Sealing.{is_fitted, fitted_words, no_code_long, ao_area_words}
 use Rattle.law_shim.proofs.Returning.{fitted_found, front_listed}
 use Rattle.shim_relay.specs.Laying.{laid}
-use Rattle.shim_relay.proofs.LaidLaws.{laid_ip_fits, laid_long, relaid_long, relaid_told}
+use Rattle.shim_relay.proofs.LaidLaws.{laid_ip_fits, laid_long, relaid_told}
+use Rattle.shim_relay.proofs.SumLaws.{sent_long}
 use Rattle.ao_mac.specs.Macs.{IsMacOf}
 use Rattle.ao_shim.specs.Guards.{Written}
 use Rattle.ao_shim.specs.Plans.{ao_after, HasOne}
@@ -122,13 +123,13 @@ told_with d one two e h = subst (λ (n : ℕ). n ≤ 65535) (relaid_told d.ip d 
 pub seals : (d : Segment) (area : List ℕ) (s : Sending) (n : ℕ) (context code blank whole out0 out1 out2 : List ℕ) (k m : ℕ) → Fits d → blank ≡ area ++ written_ao s (no_mac s) → whole ≡ area ++ written_ao s code
     → length code ≡ mac_length_of s.row.algorithm → find_ao blank ≡ One (ao_last area s (no_mac s))
     → IsMacOf code s.row.algorithm (traffic_key s.row.algorithm s.row.master context) (n / ring) (laid d blank) s.row.with_options
-    → k ≡ length (spell (laid d blank)) → out1 ≡ spell (laid d blank) ++ drop k out0 → m ≡ length (spell (relaid d whole)) → out2 ≡ spell (relaid d whole) ++ drop m out1
-    → Written (spell (with_ao d area s (code_for s context (input_for d area s n)))) out0 out2 m
+    → k ≡ length (spell (laid d blank)) → out1 ≡ spell (laid d blank) ++ drop k out0 → m ≡ length (spell (as_sent (relaid d whole))) → out2 ≡ spell (as_sent (relaid d whole)) ++ drop m out1
+    → Written (spell (as_sent (with_ao d area s (code_for s context (input_for d area s n))))) out0 out2 m
 seals d area s n context code blank whole out0 out1 out2 k m f eb ew long found is ek e1 em e2 =
     let nl = no_code_long s in
     let lb : length blank ≡ length area + (4 + mac_length_of s.row.algorithm) = ap (λ (l : List ℕ). length l) eb ∙ whole_long area s (no_mac s) nl in
     let lw : length whole ≡ length area + (4 + mac_length_of s.row.algorithm) = ap (λ (l : List ℕ). length l) ew ∙ whole_long area s code long in
-    let same : m ≡ k = omega (arith, laid_long d blank d.checksum f, relaid_long d whole f) in
+    let same : m ≡ k = omega (arith, laid_long d blank d.checksum f, sent_long d whole f) in
     let rest : drop m out1 ≡ drop m out0 =
     ap (λ (l : List ℕ). drop m l) e1 ∙ (drop_at (spell (laid d blank)) (drop k out0) m (omega (arith, same, ek)) ∙ ap (λ (j : ℕ). drop j out0) (sym same)) in
     let input : mac_input n (laid d blank) (ao_last area s (no_mac s)) s.row.with_options ≡ input_for d area s n =
@@ -137,8 +138,8 @@ seals d area s n context code blank whole out0 out1 out2 k m f eb ew long found 
     is n (ao_last area s (no_mac s)) refl found ∙ ap (λ (l : List ℕ). mac s.row.algorithm (traffic_key s.row.algorithm s.row.master context) l) input in
     let segment : relaid d whole ≡ with_ao d area s (code_for s context (input_for d area s n)) = ap (relaid d) ew ∙ ap (λ (l : List ℕ). with_ao d area s l) code_is in
     record {
-      count_is = em ∙ ap (λ (x : Segment). length (spell x)) segment;
-      new_is = e2 ∙ (ap (λ (l : List ℕ). spell (relaid d whole) ++ l) rest ∙ ap (λ (x : Segment). spell x ++ drop m out0) segment);
+      count_is = em ∙ ap (λ (x : Segment). length (spell (as_sent x))) segment;
+      new_is = e2 ∙ (ap (λ (l : List ℕ). spell (as_sent (relaid d whole)) ++ l) rest ∙ ap (λ (x : Segment). spell (as_sent x) ++ drop m out0) segment);
     }
 
 -- ---- a MAC by equal parts

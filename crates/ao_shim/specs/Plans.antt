@@ -15,7 +15,7 @@ use Rattle.book_endpoint.specs.Emissions.{ao_length, no_mac}
 use Rattle.book_shim.specs.declared.kept.Kept.{Kept}
 use Rattle.book_shim.specs.Keeping.{own_isn, peer_isn}
 use Rattle.book_shim.specs.Relaying.{fitted, length_in_header}
-use Rattle.book_shim.specs.Leaving.{signs, entered, with_ao, input_for, code_for}
+use Rattle.book_shim.specs.Leaving.{as_sent, signs, entered, with_ao, input_for, code_for}
 use Rattle.book_shim.specs.Leaving.{sealed_with, send_sealed, kept_for}
 use Rattle.key_coordination.specs.Sendings.{told}
 use Rattle.ao_kdf.specs.declared.way.Way.TheVariants.{Outbound}
@@ -50,7 +50,8 @@ pub record IsReady (rows : List Row) (d : Segment) (p : Plan) : Type 0 where
 -- a datagram as its plan seals it (RFC 5925, section 7.4)
 abbrev pub sealed_by : Segment → Plan → Sending → Segment
 sealed_by d p s =
-    with_ao d p.fitted s (code_for s (bytes_of p.context) (input_for d p.fitted s p.number))
+    as_sent (with_ao d p.fitted s
+    (code_for s (bytes_of p.context) (input_for d p.fitted s p.number)))
 
 -- what a datagram is sealed with as the definitions say, whatever the MTU (own)
 pub record IsPlanned (rows : List Row) (now : ℕ) (pair : Pair) (g : Kept) (d : Segment)

@@ -10,6 +10,7 @@ use Rattle.book_segments.specs.Options.{plains, listed, options_of}
 use Rattle.book_segments.specs.Segments.{Segment, Reading, Bad as Unread, Read, reading, has}
 use Rattle.book_segments.specs.Segments.{SYN, ACK, RST, segment_length}
 use Rattle.book_segments.specs.Bytes.{ring}
+use Rattle.book_segments.specs.Spelling.{with_sum}
 use Rattle.book_segments.specs.Sockets.{same_socket}
 use Rattle.book_macs.specs.Contexts.{context_of}
 use Rattle.book_macs.specs.MacInput.{mac_input}
@@ -101,6 +102,10 @@ abbrev pub code_for : Sending → (context input : List ℕ) → List ℕ
 code_for s context input =
     mac s.row.algorithm (traffic_key s.row.algorithm s.row.master context) input
 
+-- a checksum of 0000 is sent as ffff, the same number: there are receivers that refuse 0000 (own)
+abbrev pub as_sent : Segment → Segment
+as_sent d = with_sum d (if d.checksum == 0 then 0xffff else d.checksum)
+
 -- a datagram sealed under the key of the row, its other options being these (RFC 5925, section 7.4)
 abbrev pub sealed_with : Kept → Segment → (area : List ℕ) → Sending → List ℕ → ℕ → Sealed
 sealed_with g d area s context n =
@@ -112,7 +117,7 @@ sealed_with g d area s context n =
       number = n;
       context = context;
       input = input;
-      segment = with_ao d area s (code_for s context input);
+      segment = as_sent (with_ao d area s (code_for s context input));
     }
 
 -- what is sent in place of a datagram, or the first refusal that holds (RFC 5925, section 7.4)

@@ -55,7 +55,7 @@ summed_right service identification flags ttl options d =
     let some : 0 < words_sum blank = header_some (69 + length options / 4) service (put2 (20 + length options + tcp_length d) (put2 identification (64 * flags ∷ 0 ∷ ttl ∷ 6 ∷ put2 0 rest))) (omega arith) in
     is_right full (omega arith) (rw more (complement_completes blank some))
 
-laid_fits : (i : IpHeader) (d : Segment) (area : List ℕ) → FitsIp i d → length_in_header i (with_area d area) ≤ 65535
+pub laid_fits : (i : IpHeader) (d : Segment) (area : List ℕ) → FitsIp i d → length_in_header i (with_area d area) ≤ 65535
     → FitsIp (summed i (with_area d area)) (record (with_area d area) { ip = summed i (with_area d area) })
 laid_fits (Ipv4 service identification flags ttl checksum options) d area f h = record {
   service_fits = f.service_fits;

@@ -28,12 +28,13 @@ use Rattle.book_shim.specs.declared.refusal.Untaken.TheVariants.{Unkeyed, Checks
 use Rattle.book_shim.specs.Keeping.{Setting, demand, is_keyed}
 use Rattle.book_shim.specs.Relaying.{spelled, going, coming, in_words, rewritten, fitted, relaid, with_area, length_in_header, coming_area, most_mss}
 use Rattle.book_shim.specs.declared.trim.Trim.{Trim}
-use Rattle.book_shim.specs.Leaving.{Sealed, entered, kept_for, signs, send_sealed, with_ao, ao_last, input_for, code_for}
+use Rattle.book_shim.specs.Leaving.{Sealed, entered, kept_for, signs, send_sealed, as_sent, with_ao, ao_last, input_for, code_for}
 use Rattle.book_shim.specs.Arriving.{Opened, as_taken, judged_arrival, is_awaited, known_for, handed_on, take_in, take_read}
 use Rattle.law_shim.specs.Origins.{AgreesWith, IsMet, ComesOut}
 use Rattle.law_shim.proofs.Areas.{IsOpenPlain, IsNot, written_listed, plains_placed, written_append, unsigned, ao_plain, front, front_written, whole_written, whole_open, front_open, front_not, listed_plain, ao_found}
-use Rattle.law_shim.proofs.Sealing.{fitted_words, sends, IsFitted, is_fitted, Keeps, relaid_keeps, no_code_long}
-use Rattle.law_shim.proofs.Opening.{relaid_good, covered_same, same_input, remainder_of, meant_near, accepted_keyed, passes_through}
+use Rattle.law_shim.proofs.Sealing.{fitted_words, sends, IsFitted, is_fitted, Keeps, relaid_keeps, sent_keeps, no_code_long}
+use Rattle.law_shim.proofs.Sums.{sent_good, input_sent}
+use Rattle.law_shim.proofs.Opening.{covered_same, same_input, remainder_of, meant_near, accepted_keyed, passes_through}
 
 rewritten_is : (k : Trim) (area : List ℕ)
     → rewritten (going k) area ≡ flat_map (going k) (plains (listed (options_of area))) ++ replicate ((4 - length (flat_map (going k) (plains (listed (options_of area)))) % 4) % 4) 1
@@ -206,9 +207,9 @@ comes_out sending here pair_there pair there g d m f h met =
     let a = area ++ written_ao s code in
     let blank = area ++ written_ao s (no_mac s) in
     let e = m.segment in
-    let is : e ≡ relaid d a = ap (λ (x : Sealed). x.segment) z.sent_is in
+    let is : e ≡ as_sent (relaid d a) = ap (λ (x : Sealed). x.segment) z.sent_is in
     let given : m.given ≡ d = ap (λ (x : Sealed). x.given) z.sent_is in
-    let k : Keeps d e a = subst (λ (x : Segment). Keeps d x a) (sym is) (relaid_keeps d a) in
+    let k : Keeps d e a = subst (λ (x : Segment). Keeps d x a) (sym is) (sent_keeps d a) in
     let fit = is_fitted (40 - ao_length s) d.area area z.fits in
     let code_long : length code ≡ mac_length_of s.row.algorithm =
     length-mac s.row.algorithm (traffic_key s.row.algorithm s.row.master m.context) input (length-traffic_key s.row.algorithm s.row.master m.context) in
@@ -222,7 +223,7 @@ comes_out sending here pair_there pair there g d m f h met =
     let sizes : segment_length e ≡ segment_length d = length_same e d k.payload k.flags in
     let inputs : input ≡ mac_input m.number e ao met.row.row.with_options =
     same_input m.number d blank a (ao_last area s (no_mac s)) ao s.row.with_options areas (covered_same s.row.with_options area s (no_mac s) code same_long)
-    ∙ ap (λ (x : Segment). mac_input m.number x ao s.row.with_options) (sym is) ∙ ap (λ (b : Bool). mac_input m.number e ao b) (sym met.with_options) in
+    ∙ sym (input_sent m.number (relaid d a) ao s.row.with_options) ∙ ap (λ (x : Segment). mac_input m.number x ao s.row.with_options) (sym is) ∙ ap (λ (b : Bool). mac_input m.number e ao b) (sym met.with_options) in
     let verdict : judge here.rows pair (known_for g e) here.now e ≡ Ok p =
     passes_through here.rows pair (known_for g e) here.now e ao met.row m.context m.number (ap find_ao k.area_is ∙ fitted_found d area s code f z.plain fit) met.accepted
     (code_long ∙ ap mac_length_of (sym met.algorithm)) met.context (heard_by (has SYN e) (known_for g e).expected (λ no_syn. let r = met.near no_syn in (r.0, r.1)))
@@ -231,7 +232,7 @@ comes_out sending here pair_there pair there g d m f h met =
     (code_right met.row.row s m.context input (mac_input m.number e ao met.row.row.with_options) met.algorithm met.master inputs) in
     let whole : length_in_header d.ip (with_area d a) ≤ 65535 =
     subst (λ (n : ℕ). n ≤ 65535) (told_same d.ip (with_ao d area s (no_mac s)) (with_area d a) (total_same d blank a (relaid_keeps d blank) areas)) z.whole in
-    let right : good e ≡ true = ap good is ∙ relaid_good d a f.ip whole in
+    let right : good e ≡ true = ap good is ∙ sent_good d a f.ip whole in
     let l = relaid_keeps e (coming_area (most_mss here.mtu e) e.area) in
     let os = fitted_options d area s code f z.plain fit (fitted_words _ d.area area z.fits) in
     let G : Segment → Type 0 = λ x. AgreesWith x (relaid e (coming_area (most_mss here.mtu e) e.area)) in

@@ -66,8 +66,8 @@ code_of-code-requires-clause-laid g c =
     let fits = laid_fits c.args.datagram.now c.as_slice.result.now f told words c.as_slice.ensures.most c.lay_blank.ensures.bytes list in
     laid_one c.args.datagram.now c.as_slice.result.now _ c.lay_blank.new.out (ao_last c.args.plan.now.fitted r.s (no_mac r.s)) fits (ap find_ao blank ∙ b.found) c.lay_blank.ensures.laid
 
-pub relay-requires-clause-whole : goal.relay-requires-clause-whole
-relay-requires-clause-whole g c =
+pub relay_sent-requires-clause-whole : goal.relay_sent-requires-clause-whole
+relay_sent-requires-clause-whole g c =
     let r = c.requires.ready in
     let f = read_fits c.args.bytes.now c.args.datagram.now (λ i. omega (arith, c.type_inv.bytes i)) c.requires.read in
     let b = beside c.args.datagram.now c.args.plan.now.fitted r.s f r.plain r.fitted_is in
@@ -84,8 +84,8 @@ relay-requires-clause-whole g c =
     let long : length c.as_slice-3.result.now ≡ length (c.args.plan.now.fitted ++ written_ao r.s (no_mac r.s)) = ap (λ (l : List ℕ). length l) whole ∙ (whole_long c.args.plan.now.fitted r.s code code_long ∙ sym b.long) in
     told_with c.args.datagram.now c.as_slice-3.result.now (c.args.plan.now.fitted ++ written_ao r.s (no_mac r.s)) long r.whole
 
-pub relay-requires-clause-room : goal.relay-requires-clause-room
-relay-requires-clause-room g c =
+pub relay_sent-requires-clause-room : goal.relay_sent-requires-clause-room
+relay_sent-requires-clause-room g c =
     let r = c.requires.ready in
     let f = read_fits c.args.bytes.now c.args.datagram.now (λ i. omega (arith, c.type_inv.bytes i)) c.requires.read in
     let b = beside c.args.datagram.now c.args.plan.now.fitted r.s f r.plain r.fitted_is in
@@ -125,5 +125,5 @@ returns-clause-written g c = λ r.
     let mac = c.code_of-code.ensures.mac r.s.row (laid c.args.datagram.now c.as_slice.result.now) r.row_is read in
     let is : IsMacOf code r.s.row.algorithm (traffic_key r.s.row.algorithm r.s.row.master (bytes_of c.args.plan.now.context)) (c.args.plan.now.number / ring) (laid c.args.datagram.now c.as_slice.result.now) r.s.row.with_options =
     subst (λ (l : List ℕ). IsMacOf l r.s.row.algorithm (traffic_key r.s.row.algorithm r.s.row.master (bytes_of c.args.plan.now.context)) (c.args.plan.now.number / ring) (laid c.args.datagram.now c.as_slice.result.now) r.s.row.with_options) (sym c.as_slice-2.ensures.bytes) mac in
-    seals c.args.datagram.now c.args.plan.now.fitted r.s c.args.plan.now.number (bytes_of c.args.plan.now.context) code c.as_slice.result.now c.as_slice-3.result.now c.args.out.now c.lay_blank.new.out c.relay.new.out c.lay_blank.result c.relay.result
-    f blank whole code_long (ap find_ao blank ∙ b.found) is c.lay_blank.ensures.end c.lay_blank.ensures.laid c.relay.ensures.end c.relay.ensures.relaid
+    seals c.args.datagram.now c.args.plan.now.fitted r.s c.args.plan.now.number (bytes_of c.args.plan.now.context) code c.as_slice.result.now c.as_slice-3.result.now c.args.out.now c.lay_blank.new.out c.relay_sent.new.out c.lay_blank.result c.relay_sent.result
+    f blank whole code_long (ap find_ao blank ∙ b.found) is c.lay_blank.ensures.end c.lay_blank.ensures.laid c.relay_sent.ensures.end c.relay_sent.ensures.sent
