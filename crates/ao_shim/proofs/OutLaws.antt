@@ -22,7 +22,8 @@ use Rattle.ao_check.specs.Bonds.{steps_of}
 use Rattle.law_shim.proofs.Sealing.{ok_is}
 use Rattle.ao_shim.specs.Guards.{is_single_use, sealing_steps}
 use Rattle.ao_shim.proofs.KeptLaws.{entered_later, later_kept, once_entered}
-use Rattle.book_shim.specs.Leaving.{Sealed, signs, entered, kept_for, with_ao, sealed_with, send_within, send_sealed, send_read, outbound}
+use Rattle.book_shim.specs.Leaving.{Sealed, signs, entered, kept_for, with_ao, send_within, send_sealed, send_read, outbound}
+use Rattle.law_shim.specs.Seals.{sealed_with}
 
 -- ---- what was read
 

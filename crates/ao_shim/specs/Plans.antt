@@ -16,7 +16,8 @@ use Rattle.book_shim.specs.declared.kept.Kept.{Kept}
 use Rattle.book_shim.specs.Keeping.{own_isn, peer_isn}
 use Rattle.book_shim.specs.Relaying.{fitted, length_in_header}
 use Rattle.book_shim.specs.Leaving.{as_sent, signs, entered, with_ao, input_for, code_for}
-use Rattle.book_shim.specs.Leaving.{sealed_with, send_sealed, kept_for}
+use Rattle.book_shim.specs.Leaving.{send_sealed, kept_for}
+use Rattle.law_shim.specs.Seals.{sealed_with}
 use Rattle.key_coordination.specs.Sendings.{told}
 use Rattle.ao_kdf.specs.declared.way.Way.TheVariants.{Outbound}
 use Rattle.ao_kdf.specs.Cache.{Cache, kept, IsRight}

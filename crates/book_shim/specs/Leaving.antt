@@ -106,20 +106,6 @@ code_for s context input =
 abbrev pub as_sent : Segment → Segment
 as_sent d = with_sum d (if d.checksum == 0 then 0xffff else d.checksum)
 
--- a datagram sealed under the key of the row, its other options being these (RFC 5925, section 7.4)
-abbrev pub sealed_with : Kept → Segment → (area : List ℕ) → Sending → List ℕ → ℕ → Sealed
-sealed_with g d area s context n =
-    let input = input_for d area s n in
-    record {
-      kept = record (past_sent g d n) { current = Some s.number };
-      given = d;
-      sending = s;
-      number = n;
-      context = context;
-      input = input;
-      segment = as_sent (with_ao d area s (code_for s context input));
-    }
-
 -- what is sent in place of a datagram, or the first refusal that holds (RFC 5925, section 7.4)
 unfoldable pub send_within : Setting → Pair → Kept → Segment → Result Sealed Unsent
 send_within here pair e d = do
@@ -131,7 +117,15 @@ send_within here pair e d = do
   s ← or_fault (choose e.current here.rows pair here.now) NoKey
   area ← or_fault (fitted (40 - ao_length s) d.area) NoRoom
   whole ← demand (nat_le (length_in_header d.ip (with_ao d area s (no_mac s))) 65535) TooLong
-  Ok (sealed_with e d area s context n)
+  Ok (record {
+    kept = record (past_sent e d n) { current = Some s.number };
+    given = d;
+    sending = s;
+    number = n;
+    context = context;
+    input = input_for d area s n;
+    segment = as_sent (with_ao d area s (code_for s context (input_for d area s n)));
+  })
 
 -- what is sent in place of a datagram of the own kernel (RFC 5925, section 7.4)
 abbrev pub send_sealed : Setting → Pair → Kept → Segment → Result Sealed Unsent

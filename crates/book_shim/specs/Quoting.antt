@@ -27,7 +27,7 @@ quotes_at p q source destination =
       remote = record { address = destination; port = two_octets_at q (p + 2) };
     })
 
--- an error over IPv4 that quotes these bytes; a fragment but the first has no ports (RFC 792)
+-- an error over IPv4 that quotes this; only a first fragment has ports (RFC 791, section 3.2)
 abbrev pub v4_error : List ℕ → Notice
 v4_error q =
     let size = 4 * (slice_index q 0 % 16) in
@@ -46,7 +46,7 @@ v6_error q =
     else if not (next == 6) then Other
     else quotes_at ipv6_header_length q (V6 (slice_range q 8 24)) (V6 (slice_range q 24 40))
 
--- a datagram over IPv4: truncated, a fragment, not of ICMP, an error, or another message (RFC 792)
+-- a datagram over IPv4 of ICMP: whole, no fragment; an error or another one (RFC 791, section 3.1)
 abbrev pub v4_notice : List ℕ → Notice
 v4_notice b =
     let size = 4 * (slice_index b 0 % 16) in
@@ -66,7 +66,7 @@ v6_notice b =
     else if nat_lt (slice_index b ipv6_header_length) 128 then v6_error (slice_range b start end)
     else Other
 
--- what a datagram that came as ICMP is; the kernel judges its checksums (RFC 791; RFC 8200)
+-- what a datagram is that came as ICMP; the kernel judges its checksums (RFC 1122, section 3.2.2)
 unfoldable pub notice : List ℕ → Notice
 notice b =
     if slice_index b 0 / 16 == 4 then v4_notice b

@@ -27,7 +27,8 @@ use Rattle.book_shim.specs.declared.refusal.Untaken.TheVariants.{Unkeyed as Keyl
 use Rattle.book_shim.specs.Keeping.{Setting, demand, own_isn, peer_isn, is_keyed}
 use Rattle.book_shim.specs.Relaying.{in_words, rewritten, going, if_room, packed_in, fitted_from, fitted, relaid, with_area, summed, length_in_header, headers_length, most_mss}
 use Rattle.book_shim.specs.declared.trim.Trim.{Trim}
-use Rattle.book_shim.specs.Leaving.{Sealed, signs, entered, kept_for, as_sent, sealed_with, send_within, send_sealed, with_ao}
+use Rattle.book_shim.specs.Leaving.{Sealed, signs, entered, kept_for, as_sent, send_within, send_sealed, with_ao}
+use Rattle.law_shim.specs.Seals.{sealed_with}
 use Rattle.book_shim.specs.Arriving.{Opened, as_taken, judged_arrival, is_awaited, known_for, handed_on, take_in}
 use Rattle.law_shim.proofs.Meanings.{Sized}
 

@@ -5,7 +5,8 @@ use Rattle.book_segments.specs.Segments.{Read, reading}
 use Rattle.book_macs.specs.Contexts.{bytes_of}
 use Rattle.book_shim.specs.declared.kept.Kept.{Kept}
 use Rattle.book_shim.specs.Keeping.{is_keyed}
-use Rattle.book_shim.specs.Leaving.{entered, past_sent, sealed_with}
+use Rattle.book_shim.specs.Leaving.{entered, past_sent}
+use Rattle.law_shim.specs.Seals.{sealed_with}
 use Rattle.key_coordination.specs.declared.choice.Sending.{Sending as Answer}
 use Rattle.ao_kdf.specs.declared.way.Way.TheVariants.{Outbound}
 use Rattle.ao_kdf.specs.Cache.{kept}
