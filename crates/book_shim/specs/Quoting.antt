@@ -46,7 +46,7 @@ v6_error q =
     else if not (next == 6) then Other
     else quotes_at ipv6_header_length q (V6 (slice_range q 8 24)) (V6 (slice_range q 24 40))
 
--- a datagram over IPv4 of ICMP: whole, no fragment; an error or another one (RFC 791, section 3.1)
+-- a datagram over IPv4: whole, no fragment, of protocol 1, an error or not (RFC 791, section 3.1)
 abbrev pub v4_notice : List ℕ → Notice
 v4_notice b =
     let size = 4 * (slice_index b 0 % 16) in
@@ -57,7 +57,7 @@ v4_notice b =
     else if is_v4_error (slice_index b size)
     then v4_error (slice_range b (size + icmp_header_length) total) else Other
 
--- the same over IPv6, where a type below 128 is an error (RFC 4443, section 2.1)
+-- the same over IPv6, of next header 58; types below 128 are errors (RFC 4443, sections 1 and 2.1)
 abbrev pub v6_notice : List ℕ → Notice
 v6_notice b =
     let start = ipv6_header_length + icmp_header_length in
