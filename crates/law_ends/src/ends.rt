@@ -9,7 +9,8 @@ ghost use Rattle.law_link.specs.Laws.{SetupFits};
 ghost use Rattle.law_ends.specs.Doings.{Doing, DoingFits};
 ghost use Rattle.law_ends.specs.Users.{FreshIsns};
 ghost use Rattle.law_ends.specs.Delivered.{Delivers};
-ghost use Rattle.law_ends.specs.Ends.{LiveInOrder, HeldInOrder, ToldInOrder, HeldIsPartners, LiveEndsWhole, HeldEndsWhole, ToldEndsWhole, HeldIsReceived, ResetByAbort};
+ghost use Rattle.law_ends.specs.Ends.{LiveInOrder, HeldInOrder, ToldInOrder, HeldIsPartners, LiveEndsWhole};
+ghost use Rattle.law_ends.specs.Ends.{HeldEndsWhole, ToldEndsWhole, HeldIsReceived, ResetByAbort};
 
 /// Where no forgery is counted, what takes delivered in the session of an end that its stack holds, and
 /// then what is ready there, begins what was given in the session of the other end whose initial
@@ -18,16 +19,20 @@ ghost use Rattle.law_ends.specs.Ends.{LiveInOrder, HeldInOrder, ToldInOrder, Hel
 /// of the link. `told` says it of each session of each end, the removed ones among them: what takes
 /// delivered is nothing, or begins what was given in a session of the other end.
 pub fn bytes_come_in_order()
-    ensures live { (setup : Setup) (most : End → ℕ) (doings : List Doing) → SetupFits setup → AllByRecursion DoingFits doings → FreshIsns setup most doings → LiveInOrder setup most doings }
-    ensures held { (setup : Setup) (most : End → ℕ) (doings : List Doing) → SetupFits setup → AllByRecursion DoingFits doings → FreshIsns setup most doings → HeldInOrder setup most doings }
-    ensures told { (setup : Setup) (most : End → ℕ) (doings : List Doing) → SetupFits setup → AllByRecursion DoingFits doings → FreshIsns setup most doings → ToldInOrder setup most doings }
+    ensures live { (setup : Setup) (most : End → ℕ) (doings : List Doing) → SetupFits setup
+        → AllByRecursion DoingFits doings → FreshIsns setup most doings → LiveInOrder setup most doings }
+    ensures held { (setup : Setup) (most : End → ℕ) (doings : List Doing) → SetupFits setup
+        → AllByRecursion DoingFits doings → FreshIsns setup most doings → HeldInOrder setup most doings }
+    ensures told { (setup : Setup) (most : End → ℕ) (doings : List Doing) → SetupFits setup
+        → AllByRecursion DoingFits doings → FreshIsns setup most doings → ToldInOrder setup most doings }
 {}
 
 /// Where no forgery is counted, each byte that an end received, in order or not, is the one that its
 /// partner was given at that number, and a FIN that it recorded is its partner's; an end without a
 /// partner received nothing.
 pub fn bytes_are_the_partners()
-    ensures { (setup : Setup) (most : End → ℕ) (doings : List Doing) → SetupFits setup → AllByRecursion DoingFits doings → FreshIsns setup most doings → HeldIsPartners setup most doings }
+    ensures { (setup : Setup) (most : End → ℕ) (doings : List Doing) → SetupFits setup
+        → AllByRecursion DoingFits doings → FreshIsns setup most doings → HeldIsPartners setup most doings }
 {}
 
 /// Where no forgery is counted, an end that is held is at the end of its stream only where close was
@@ -36,22 +41,27 @@ pub fn bytes_are_the_partners()
 /// session of each end: a take told the end only where a session of the other end was closed, and what
 /// takes delivered is all that was given in it.
 pub fn streams_end_whole()
-    ensures live { (setup : Setup) (most : End → ℕ) (doings : List Doing) → SetupFits setup → AllByRecursion DoingFits doings → FreshIsns setup most doings → LiveEndsWhole setup most doings }
-    ensures held { (setup : Setup) (most : End → ℕ) (doings : List Doing) → SetupFits setup → AllByRecursion DoingFits doings → FreshIsns setup most doings → HeldEndsWhole setup most doings }
-    ensures told { (setup : Setup) (most : End → ℕ) (doings : List Doing) → SetupFits setup → AllByRecursion DoingFits doings → FreshIsns setup most doings → ToldEndsWhole setup most doings }
+    ensures live { (setup : Setup) (most : End → ℕ) (doings : List Doing) → SetupFits setup
+        → AllByRecursion DoingFits doings → FreshIsns setup most doings → LiveEndsWhole setup most doings }
+    ensures held { (setup : Setup) (most : End → ℕ) (doings : List Doing) → SetupFits setup
+        → AllByRecursion DoingFits doings → FreshIsns setup most doings → HeldEndsWhole setup most doings }
+    ensures told { (setup : Setup) (most : End → ℕ) (doings : List Doing) → SetupFits setup
+        → AllByRecursion DoingFits doings → FreshIsns setup most doings → ToldEndsWhole setup most doings }
 {}
 
 /// Where no forgery is counted and fewer than 2^31 bytes were given in each session, each given byte
 /// of an end below its oldest unacknowledged number is below the number that its partner expects.
 pub fn acknowledged_was_received()
-    ensures { (setup : Setup) (most : End → ℕ) (doings : List Doing) → SetupFits setup → AllByRecursion DoingFits doings → FreshIsns setup most doings → HeldIsReceived setup most doings }
+    ensures { (setup : Setup) (most : End → ℕ) (doings : List Doing) → SetupFits setup
+        → AllByRecursion DoingFits doings → FreshIsns setup most doings → HeldIsReceived setup most doings }
 {}
 
 /// Where no forgery is counted, a call that hears a datagram of the pair answers that it reset the
 /// connection only where an end is held, and abort was called before in the session of the other end
 /// whose initial sequence number that end knows as its peer's.
 pub fn resets_come_of_aborts()
-    ensures { (setup : Setup) (most : End → ℕ) (doings : List Doing) (e : End) (coming : Incoming) → SetupFits setup → AllByRecursion DoingFits doings → FreshIsns setup most doings
+    ensures { (setup : Setup) (most : End → ℕ) (doings : List Doing) (e : End) (coming : Incoming) → SetupFits setup
+        → AllByRecursion DoingFits doings → FreshIsns setup most doings
         → ResetByAbort setup most doings e coming }
 {}
 

@@ -18,6 +18,8 @@ ghost use Rattle.law_ends.specs.Ends.{IsPastOfLink};
 /// The one premise, `FreshIsns`, is that no end begins two sessions of the pair with one initial
 /// sequence number. `fits` says that the events fit where the calls do, as the laws of a link ask.
 pub fn the_past_of_two_stacks_is_the_past_of_a_link()
-    ensures mirrors { (setup : Setup) (most : End → ℕ) (doings : List Doing) → FreshIsns setup most doings → IsPastOfLink setup most doings }
-    ensures fits { (setup : Setup) (most : End → ℕ) (doings : List Doing) → AllByRecursion DoingFits doings → AllByRecursion EventFits (link_events setup most doings) }
+    ensures mirrors { (setup : Setup) (most : End → ℕ) (doings : List Doing)
+        → FreshIsns setup most doings → IsPastOfLink setup most doings }
+    ensures fits { (setup : Setup) (most : End → ℕ) (doings : List Doing)
+        → AllByRecursion DoingFits doings → AllByRecursion EventFits (link_events setup most doings) }
 {}

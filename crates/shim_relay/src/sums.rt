@@ -6,7 +6,8 @@ ghost use Rattle.shim_relay.specs.Laying.{sum_sent};
 /// Two bytes that are zero become ffff.
 pub(crate) fn replace(room: &mut [u8], place: usize)
     requires { place + 1 < length room.old }
-    ensures { (front back : List ℕ) (c : ℕ) → length front ≡ place → c < 65536 → room.old ≡ front ++ put2 c back → room.new ≡ front ++ put2 (sum_sent c) back }
+    ensures { (front back : List ℕ) (c : ℕ) → length front ≡ place → c < 65536 → room.old ≡ front ++ put2 c back
+        → room.new ≡ front ++ put2 (sum_sent c) back }
 {
     if room[place] != 0 {
         return;
