@@ -1,5 +1,5 @@
 -- A datagram comes to a stack.
-use Rattle.std.proofs.Common.{◌≡◌, ℕ, Bool, true, false, not, ◌&&◌, Option, Some, None, Result, Ok, Err, refl, sym, ap, subst, ◌∙◌}
+use Rattle.std.proofs.Common.{◌≡◌, ℕ, Bool, true, false, not, ◌&&◌, Option, Some, None, Ok, Err, refl, sym, ap, subst, ◌∙◌}
 use Rattle.std.specs.Prelude.{option_map, if◌then◌else◌}
 use Rattle.book_base.specs.declared.address.Pair.{Pair}
 use Rattle.book_segments.specs.declared.fault.DatagramFault.{DatagramFault}

@@ -2,6 +2,7 @@ mod ActLaws
 mod ArriveLaws
 mod BeginLaws
 mod CallLaws
+mod CostLaws
 mod HandLaws
 pub mod LastLaws
 pub mod RowLaws

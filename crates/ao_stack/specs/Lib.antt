@@ -1,5 +1,6 @@
 pub mod Answers
 pub mod Checksums
+pub mod Costs
 pub mod Passed
 pub mod Stands
 pub mod Timers

@@ -1,5 +1,5 @@
 //! A datagram comes.
-ghost use Rattle.std.specs.Prelude.{◌≡◌, ◌≤◌, ◌<◌, ◌&&◌, ℕ, true, List, Option, Some, Err, is_some, option_map};
+ghost use Rattle.std.specs.Prelude.{◌≡◌, ◌≤◌, ◌<◌, ◌+◌, ◌&&◌, ℕ, true, List, Option, Some, Err, is_some, option_map};
 ghost use Rattle.book_base.specs.declared.address.Pair.{Pair as OnePair};
 ghost use Rattle.book_segments.specs.Segments.{Segment, Read, SYN, good, has, reading};
 ghost use Rattle.book_endpoint.specs.Arrivals.{syn_alone};
@@ -15,6 +15,7 @@ ghost use Rattle.stack_timers.specs.Watches.{latest};
 ghost use Rattle.node_ends.specs.declared.answer.NodeArrival.TheVariants.{At};
 ghost use Rattle.tcp_endpoint.specs.declared.arrival.Arrived.{Arrived as OneArrived};
 ghost use Rattle.ao_stack.specs.Answers.{Does, Follows, IsHeard, heard_moving};
+ghost use Rattle.ao_stack.specs.Costs.{CostsHeard, CostsInput};
 ghost use Rattle.ao_stack.specs.Passed.{PassesAs};
 ghost use Rattle.ao_stack.specs.Stands.{Stands};
 
@@ -146,25 +147,22 @@ impl Stack {
     /// A segment comes for the pair.
     fn hear<'a, L: Ledger>(
         &mut self,
-        blank: Blank,
         pair: &Pair,
         now: u64,
         datagram: &Datagram<'a>,
+        steps: &mut Steps<L>,
     ) -> Heard<'a>
-        requires name { blank.name ≡ L.name }
-        requires parts { blank.parts ≡ L.parts }
-        requires part { 0 < blank.parts }
         requires time { now ≤ latest }
         ensures told { (s : StackState) (bytes : List ℕ) → Stands self.old s → reading bytes ≡ Read datagram.now → pair.now ≡ pair_reached datagram.now
             → Does self.new (IsHeard (Read datagram.now) result) (heard_pair (record { now = now; bytes = bytes }) (pair_reached datagram.now) datagram.now s (held_end (pair_reached datagram.now) s.node.ends)) }
         ensures passed { (s : StackState) → Stands self.old s → PassesAs s (Read datagram.now) result }
+        ensures costs { CostsHeard datagram.now result steps.old steps.new }
+        ensures steps { steps.new ≤ steps.old + 66 }
     {
         match self.ends.front(pair) {
             None => Heard::Told(NodeArrival::NoConnection),
             Some(before) => {
-                let told = self
-                    .ends
-                    .hear_datagram(datagram, &mut Steps::<L>::new(blank));
+                let told = self.ends.hear_datagram(datagram, steps);
                 let moved = self.follow_told(pair, now, before, &told);
                 heard_moving(told, moved)
             }
@@ -173,23 +171,26 @@ impl Stack {
 
     /// A SYN that the check refused comes for the pair, whose end, if it is held, stands so and is over:
     /// that end answers it.
-    fn refuse<'a>(
+    fn refuse<'a, L: Ledger>(
         &mut self,
         why: Verdict,
         front: Option<Front>,
         pair: &Pair,
         now: u64,
         datagram: &Datagram<'a>,
+        steps: &mut Steps<L>,
     ) -> Heard<'a>
         requires time { now ≤ latest }
         ensures told { (s : StackState) (bytes : List ℕ) → Stands self.old s → reading bytes ≡ Read datagram.now → pair.now ≡ pair_reached datagram.now
             → front ≡ option_map end_front (held_end (pair_reached datagram.now) s.node.ends)
             → Does self.new (IsHeard (Read datagram.now) result) (asked_for (record { now = now; bytes = bytes }) datagram.now s (held_end (pair_reached datagram.now) s.node.ends) (Err why)) }
         ensures passed { (s : StackState) → Stands self.old s → PassesAs s (Read datagram.now) result }
+        ensures costs { CostsHeard datagram.now result steps.old steps.new }
+        ensures steps { steps.new ≤ steps.old + 66 }
     {
         match front {
             None => Heard::Refused(why),
-            Some(_) => self.hear::<Brand>(Blank::new(1), pair, now, datagram),
+            Some(_) => self.hear(pair, now, datagram, steps),
         }
     }
 
@@ -197,38 +198,44 @@ impl Stack {
     /// refusal.
     fn judge<L: Ledger>(
         &self,
-        blank: Blank,
         pair: &Pair,
         datagram: &Datagram<'_>,
+        steps: &mut Steps<L>,
     ) -> Result<(), Verdict>
-        requires name { blank.name ≡ L.name }
-        requires parts { blank.parts ≡ L.parts }
-        requires part { 0 < blank.parts }
         requires syn { has SYN datagram.now ≡ true }
         requires reached { pair.now ≡ pair_reached datagram.now }
-        ensures { (s : StackState) → Stands self.now s → IsJudged result (asking_judged s datagram.now) }
+        ensures judged { (s : StackState) → Stands self.now s → IsJudged result (asking_judged s datagram.now) }
+        ensures steps { steps.new ≤ steps.old + 1 }
     {
-        self.ends
-            .check_syn(pair, datagram, &mut Steps::<L>::new(blank))
+        self.ends.check_syn(pair, datagram, steps)
     }
 
     /// A segment comes for the pair, and asks for a connection or not.
-    fn meet<'a>(&mut self, pair: &Pair, asks: bool, now: u64, datagram: &Datagram<'a>) -> Heard<'a>
+    fn meet<'a, L: Ledger>(
+        &mut self,
+        pair: &Pair,
+        asks: bool,
+        now: u64,
+        datagram: &Datagram<'a>,
+        steps: &mut Steps<L>,
+    ) -> Heard<'a>
         requires time { now ≤ latest }
         requires reached { pair.now ≡ pair_reached datagram.now }
         requires asks { asks ≡ (syn_alone datagram.now && good datagram.now) }
         ensures told { (s : StackState) (bytes : List ℕ) → Stands self.old s → reading bytes ≡ Read datagram.now
             → Does self.new (IsHeard (Read datagram.now) result) (met (record { now = now; bytes = bytes }) datagram.now s (held_end (pair_reached datagram.now) s.node.ends)) }
         ensures passed { (s : StackState) → Stands self.old s → PassesAs s (Read datagram.now) result }
+        ensures costs { (s : StackState) → Stands self.old s → CostsInput s (Read datagram.now) result steps.old steps.new }
+        ensures steps { steps.new ≤ steps.old + 67 }
     {
         let front = self.ends.front(pair);
         let asks_anew = asks_anew(asks, front);
         if !asks_anew {
-            return self.hear::<Brand>(Blank::new(1), pair, now, datagram);
+            return self.hear(pair, now, datagram, steps);
         }
-        match self.judge::<Brand>(Blank::new(1), pair, datagram) {
+        match self.judge(pair, datagram, steps) {
             Ok(()) => Heard::Knocks(*pair),
-            Err(why) => self.refuse(why, front, pair, now, datagram),
+            Err(why) => self.refuse(why, front, pair, now, datagram, steps),
         }
     }
 
@@ -236,11 +243,23 @@ impl Stack {
     /// the end of its pair (RFC 9293, section 3.10.7), which is told, or it knocks, or is a SYN that the check
     /// refuses where no connection is held. Of a segment that its end heard the answer has the row, the number,
     /// the context and the TCP-AO option that were found, and of no other.
-    pub fn input<'a>(&mut self, now: u64, bytes: &'a [u8]) -> Heard<'a>
+    ///
+    /// Steps are counted: none where the bytes are no datagram; at most one derivation of a traffic key where
+    /// a SYN for a pair that is free is judged; and where an end hears the segment, at most one derivation for its
+    /// check, and at most 65 links where a piece passed. An end hears a SYN that was judged only where its
+    /// connection is over and the SYN was refused, so no other segment costs two derivations.
+    pub fn input_counted<'a, L: Ledger>(
+        &mut self,
+        now: u64,
+        bytes: &'a [u8],
+        steps: &mut Steps<L>,
+    ) -> Heard<'a>
         requires time { now ≤ latest }
         ensures told { (s : StackState) → Stands self.old s
             → Follows self.new (Input (record { now = now; bytes = bytes.now })) s (IsHeard (reading bytes.now) result) }
         ensures passed { (s : StackState) → Stands self.old s → PassesAs (clocked now s).stack (reading bytes.now) result }
+        ensures costs { (s : StackState) → Stands self.old s → CostsInput (clocked now s).stack (reading bytes.now) result steps.old steps.new }
+        ensures steps { steps.new ≤ steps.old + 67 }
     {
         self.set_clock(now);
         match read_datagram(bytes) {
@@ -251,8 +270,32 @@ impl Stack {
                     remote: datagram.source(),
                 };
                 let asks = asks(&datagram);
-                self.meet(&pair, asks, now, &datagram)
+                self.meet(&pair, asks, now, &datagram, steps)
             }
         }
+    }
+
+    /// A datagram comes, with steps in a ledger of its own.
+    fn hear_bytes<'a, L: Ledger>(&mut self, blank: Blank, now: u64, bytes: &'a [u8]) -> Heard<'a>
+        requires name { blank.name ≡ L.name }
+        requires parts { blank.parts ≡ L.parts }
+        requires part { 0 < blank.parts }
+        requires time { now ≤ latest }
+        ensures told { (s : StackState) → Stands self.old s
+            → Follows self.new (Input (record { now = now; bytes = bytes.now })) s (IsHeard (reading bytes.now) result) }
+        ensures passed { (s : StackState) → Stands self.old s → PassesAs (clocked now s).stack (reading bytes.now) result }
+    {
+        let mut steps = Steps::<L>::new(blank);
+        self.input_counted(now, bytes, &mut steps)
+    }
+
+    /// A datagram comes, and nobody counts steps. All else is as for `input_counted`.
+    pub fn input<'a>(&mut self, now: u64, bytes: &'a [u8]) -> Heard<'a>
+        requires time { now ≤ latest }
+        ensures told { (s : StackState) → Stands self.old s
+            → Follows self.new (Input (record { now = now; bytes = bytes.now })) s (IsHeard (reading bytes.now) result) }
+        ensures passed { (s : StackState) → Stands self.old s → PassesAs (clocked now s).stack (reading bytes.now) result }
+    {
+        self.hear_bytes::<Brand>(Blank::new(1), now, bytes)
     }
 }

@@ -5,10 +5,12 @@ ghost use Rattle.book_stack.specs.Calls.{Output, call};
 ghost use Rattle.book_stack.specs.Stacks.{StackState, watched};
 ghost use Rattle.book_stack.specs.Turns.{ask, asked_pair, output_at, segment_in, turns, wake, woken_pair};
 ghost use Rattle.book_base.specs.Addresses.{IsOneFamily};
+ghost use Rattle.stack_ends.specs.Costs.{CostsSaid};
 ghost use Rattle.stack_ends.specs.Said.{Leaves, SaysAs};
 ghost use Rattle.stack_timers.specs.Watches.{latest};
 ghost use Rattle.ao_stack.specs.Answers.{Follows, IsHanded};
 ghost use Rattle.ao_stack.specs.Checksums.{IsFromIf};
+ghost use Rattle.ao_stack.specs.Costs.{CostsOutput};
 ghost use Rattle.ao_stack.specs.Stands.{Stands};
 ghost use Rattle.ao_stack.specs.Turns.{Makes, MadeLast, Turns, length_of, turn_limit, turn_of};
 ghost use Rattle.ao_stack.specs.Timers.{asked_by, asked_turn};
@@ -26,8 +28,9 @@ use std::sync::ledger::{Blank, Ledger};
 /// What is told of the datagram, where one was made, and it is as it is handed out.
 fn made(pair: &Pair, kind: Transmission, says: Says, room: &mut [u8]) -> Option<Outgoing>
     requires { 1500 ≤ length room.old }
-    ensures { (before : List ℕ) (o : NodeOutcome) → IsOneFamily pair.now.local.address pair.now.remote.address → SaysAs room.old says o → IsFromIf pair.now (segment_in o)
+    ensures makes { (before : List ℕ) (o : NodeOutcome) → IsOneFamily pair.now.local.address pair.now.remote.address → SaysAs room.old says o → IsFromIf pair.now (segment_in o)
         → Leaves before room.old says → Makes pair.now kind before room.new result (segment_in o) }
+    ensures costs { (old new : ℕ) → CostsSaid says old new → CostsOutput result old new }
 {
     match says {
         Says::Segment(length) => {
@@ -68,7 +71,8 @@ impl Stack {
     ) -> Option<Outgoing>
         requires time { now ≤ latest }
         requires room { 1500 ≤ length room.old }
-        ensures { (s : StackState) → Stands self.old s → Turns self.new room.old room.new result (asked_pair now pair.now s (held_end pair.now s.node.ends)) }
+        ensures turns { (s : StackState) → Stands self.old s → Turns self.new room.old room.new result (asked_pair now pair.now s (held_end pair.now s.node.ends)) }
+        ensures costs { CostsOutput result steps.old steps.new }
     {
         match self.ends.speak(pair, room, steps) {
             None => None,
@@ -88,7 +92,8 @@ impl Stack {
     ) -> Option<Outgoing>
         requires time { now ≤ latest }
         requires room { 1500 ≤ length room.old }
-        ensures { (s : StackState) → Stands self.old s → Turns self.new room.old room.new result (ask now s) }
+        ensures turns { (s : StackState) → Stands self.old s → Turns self.new room.old room.new result (ask now s) }
+        ensures costs { CostsOutput result steps.old steps.new }
     {
         match self.line.take_first() {
             None => None,
@@ -106,7 +111,8 @@ impl Stack {
     ) -> Option<Outgoing>
         requires time { now ≤ latest }
         requires room { 1500 ≤ length room.old }
-        ensures { (s : StackState) → Stands self.old s → Turns self.new room.old room.new result (woken_pair now pair.now s (held_end pair.now s.node.ends)) }
+        ensures turns { (s : StackState) → Stands self.old s → Turns self.new room.old room.new result (woken_pair now pair.now s (held_end pair.now s.node.ends)) }
+        ensures costs { CostsOutput result steps.old steps.new }
     {
         match self.ends.repeat(pair, room, steps) {
             None => None,
@@ -127,7 +133,8 @@ impl Stack {
     ) -> Option<Outgoing>
         requires time { now ≤ latest }
         requires room { 1500 ≤ length room.old }
-        ensures { (s : StackState) → Stands self.old s → Turns self.new room.old room.new result (wake now s) }
+        ensures turns { (s : StackState) → Stands self.old s → Turns self.new room.old room.new result (wake now s) }
+        ensures costs { CostsOutput result steps.old steps.new }
     {
         match self.alarms.take_due(now) {
             None => None,
@@ -155,7 +162,8 @@ impl Stack {
     ) -> Option<Outgoing>
         requires time { now ≤ latest }
         requires room { 1500 ≤ length room.old }
-        ensures { (s : StackState) → Stands self.old s → Turns self.new room.old room.new result (turn_of kind now s) }
+        ensures turns { (s : StackState) → Stands self.old s → Turns self.new room.old room.new result (turn_of kind now s) }
+        ensures costs { CostsOutput result steps.old steps.new }
     {
         match kind {
             Transmission::New => self.ask(now, room, steps),
@@ -174,7 +182,8 @@ impl Stack {
     ) -> Option<Outgoing>
         requires time { now ≤ latest }
         requires room { 1500 ≤ length room.old }
-        ensures { (s : StackState) → Stands self.old s → Turns self.new room.old room.new result (turns (turn_limit kind s) (turn_of kind now) s) }
+        ensures turns { (s : StackState) → Stands self.old s → Turns self.new room.old room.new result (turns (turn_limit kind s) (turn_of kind now) s) }
+        ensures costs { CostsOutput result steps.old steps.new }
     {
         let count = self.turn_limit(kind);
         for _turn in 0..count {
@@ -195,7 +204,8 @@ impl Stack {
     ) -> Option<Outgoing>
         requires time { now ≤ latest }
         requires room { 1500 ≤ length room.old }
-        ensures { (s : StackState) → Stands self.old s → Turns self.new room.old room.new result (output_at now s) }
+        ensures turns { (s : StackState) → Stands self.old s → Turns self.new room.old room.new result (output_at now s) }
+        ensures costs { CostsOutput result steps.old steps.new }
     {
         self.set_clock(now);
         match self.take_turns(Transmission::New, now, room, steps) {
@@ -204,25 +214,48 @@ impl Stack {
         }
     }
 
-    /// The next datagram, with steps that nobody counts.
-    fn hand_out<L: Ledger>(&mut self, blank: Blank, now: u64, room: &mut [u8]) -> Option<Outgoing>
-        requires name { blank.name ≡ L.name }
-        requires parts { blank.parts ≡ L.parts }
-        requires part { 0 < blank.parts }
-        requires time { now ≤ latest }
-        requires room { 1500 ≤ length room.old }
-        ensures { (s : StackState) → Stands self.old s → Turns self.new room.old room.new result (output_at now s) }
-    {
-        let mut steps = Steps::<L>::new(blank);
-        self.advance(now, room, &mut steps)
-    }
-
     /// The next datagram that is due at `now`, in milliseconds since 1970 and at most the last one of the
     /// year 9999: it stands in front of `room`, which has at least 1,500 bytes. Its connection is told,
     /// and whether it is sent for the first time or again. Each end in line is asked for its next
     /// segment once at most; then each alarm whose deadline is reached goes off once at most. `None`
     /// where no datagram is due, and `room` is as it was: then `output` is to be called again at
     /// `next_deadline`, or after another call.
+    ///
+    /// At most one step is counted, for the traffic key of the datagram that is handed out; none where
+    /// none is, whatever ends were asked.
+    pub fn output_counted<L: Ledger>(
+        &mut self,
+        now: u64,
+        room: &mut [u8],
+        steps: &mut Steps<L>,
+    ) -> Option<Outgoing>
+        requires time { now ≤ latest }
+        requires room { 1500 ≤ length room.old }
+        ensures handed { (s : StackState) → Stands self.old s → Follows self.new (Output now) s (IsHanded room.new (length_of result)) }
+        ensures told { (s : StackState) → Stands self.old s → MadeLast result (call (Output now) s).events }
+        ensures untouched { (s : StackState) → Stands self.old s → result ≡ None → room.new ≡ room.old }
+        ensures costs { CostsOutput result steps.old steps.new }
+    {
+        self.advance(now, room, steps)
+    }
+
+    /// The next datagram, with steps in a ledger of its own.
+    fn hand_out<L: Ledger>(&mut self, blank: Blank, now: u64, room: &mut [u8]) -> Option<Outgoing>
+        requires name { blank.name ≡ L.name }
+        requires parts { blank.parts ≡ L.parts }
+        requires part { 0 < blank.parts }
+        requires time { now ≤ latest }
+        requires room { 1500 ≤ length room.old }
+        ensures handed { (s : StackState) → Stands self.old s → Follows self.new (Output now) s (IsHanded room.new (length_of result)) }
+        ensures told { (s : StackState) → Stands self.old s → MadeLast result (call (Output now) s).events }
+        ensures untouched { (s : StackState) → Stands self.old s → result ≡ None → room.new ≡ room.old }
+    {
+        let mut steps = Steps::<L>::new(blank);
+        self.output_counted(now, room, &mut steps)
+    }
+
+    /// The next datagram that is due at `now`, and nobody counts steps. All else is as for
+    /// `output_counted`.
     pub fn output_told(&mut self, now: u64, room: &mut [u8]) -> Option<Outgoing>
         requires time { now ≤ latest }
         requires room { 1500 ≤ length room.old }

@@ -1,5 +1,5 @@
 -- What the calls of a node do to the map of its ends.
-use Rattle.std.proofs.Common.{◌≡◌, ℕ, ◌+◌, Bool, true, false, List, [], ◌∷◌, length, Option, Some, None, refl, sym, ap, ◌∙◌, arith}
+use Rattle.std.proofs.Common.{◌≡◌, ℕ, ◌+◌, Bool, true, false, List, [], ◌∷◌, length, Option, Some, None, refl, ap, ◌∙◌, arith}
 use Rattle.std.specs.Prelude.{cond, is_some, if◌then◌else◌}
 use Rattle.std.specs.BTreeMap.{is_at}
 use Rattle.std.specs.Map.{lookup, set_value}
@@ -10,12 +10,15 @@ use Rattle.book_segments.specs.Segments.{Segment, Reading, Read}
 use Rattle.book_keys.specs.Rows.{Row}
 use Rattle.book_segments.specs.Segments.{pair_reached}
 use Rattle.law_node.proofs.PairMaps.{pair_finds}
+use Rattle.law_node.proofs.Pairs.{same_pair-refl}
 use Rattle.tcp_endpoint.specs.declared.arrival.Arrived.{Arrived}
 use Rattle.tcp_endpoint.specs.declared.endpoint.Endpoint.{Endpoint}
+use Rattle.tcp_endpoint.specs.Arrivals.{Costs, IsBeforeCheck}
 use Rattle.node_ends.specs.declared.answer.NodeArrival.{NodeArrival}
 use Rattle.node_ends.specs.declared.answer.NodeArrival.TheVariants as answers
 use Rattle.node_ends.specs.Arrivals.{Comes, Hears}
-use Rattle.node_ends.specs.Held.{Holding, end_at, ends, holds, Adds, Removes, TicksAt, TicksEnd}
+use Rattle.node_ends.specs.Costs.{CostsHeard}
+use Rattle.node_ends.specs.Held.{Holding, end_at, holds, Adds, Removes, TicksAt, TicksEnd}
 use Rattle.node_ends.specs.Loans.{written}
 use Rattle.node_ends.proofs.MapLaws.{written_finds, written_count}
 
@@ -68,6 +71,20 @@ comes_some rows now r d before after told e f arrived is found answer new hears 
         count = rw new (written_count before (pair_reached d) f);
       },
     )
+
+-- a segment that no end hears costs nothing
+pub costs_none : (rows : List Row) (now : ℕ) (d : Segment) (before after : Holding) (told : NodeArrival) (old new : ℕ) → told ≡ answers.NoConnection → new ≡ old
+    → CostsHeard rows now d before after told old new
+costs_none rows now d before after told old new answer same = rw answer same
+
+-- a segment that an end hears costs what it costs this end
+pub costs_some : (rows : List Row) (now : ℕ) (d : Segment) (before after : Holding) (told : NodeArrival) (p : Pair) (e f : Endpoint) (arrived : Arrived) (old new : ℕ)
+    → end_at before p ≡ Some e → told ≡ answers.At p arrived → after ≡ written p before f → (IsBeforeCheck arrived.arrival → new ≡ old) → Costs rows now d e f arrived old new
+    → CostsHeard rows now d before after told old new
+costs_some rows now d before after told p e f arrived old new found answer is free costs =
+    let held : holds before p ≡ true = rw found refl in
+    let next : end_at after p ≡ Some f = rw is (written_finds before p p f held ∙ rw (same_pair-refl p) refl) in
+    rw answer (record { heard = e; next = f; was = found; is = next; untouched = free; costs = costs })
 
 -- ---- the clock
 

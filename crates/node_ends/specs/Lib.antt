@@ -3,3 +3,4 @@ pub mod Held
 pub mod Loans
 pub mod Calls
 pub mod Stands
+pub mod Costs

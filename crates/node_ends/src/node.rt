@@ -9,6 +9,7 @@ ghost use Rattle.book_cmd_node.specs.NodeRuns.{most_ends};
 ghost use Rattle.book_base.specs.Addresses.{IsOneFamily};
 ghost use Rattle.tcp_endpoint.specs.declared.endpoint.Endpoint.{Endpoint as OneEnd};
 ghost use Rattle.node_ends.specs.Arrivals.{Comes};
+ghost use Rattle.node_ends.specs.Costs.{CostsHeard, CostsRead};
 ghost use Rattle.node_ends.specs.Held.{Adds, Begins, FitsAll, IsRefused, Removes, Ticks, end_at, holds, refusal};
 ghost use Rattle.node_ends.specs.Loans.{LendsEnd};
 
@@ -171,7 +172,8 @@ impl Node {
     /// bytes are no datagram; `NoConnection` exactly where no pair is held with the datagram's
     /// destination as its local socket and the source as its remote one; after these two nothing has
     /// changed. Else the end of this pair answers, and all others stay. The table fits each end. At
-    /// most 66 steps are counted.
+    /// most 66 steps are counted: none where no end hears it; else at most one derivation of a traffic
+    /// key, and at most 65 links where a piece passed, as its end counts them.
     pub fn arrive<'a, L: Ledger>(
         &mut self,
         table: &Table,
@@ -182,6 +184,7 @@ impl Node {
         requires fits { FitsAll table.now.rows self.old }
         requires now { now ≤ greatest_time }
         ensures comes { Comes table.now.rows now self.old self.new result (reading bytes.now) }
+        ensures costs { CostsRead table.now.rows now (reading bytes.now) self.old self.new result steps.old steps.new }
         ensures steps { steps.new ≤ steps.old + 66 }
     {
         let datagram = match read_datagram(bytes) {
@@ -202,6 +205,7 @@ impl Node {
         requires fits { FitsAll table.now.rows self.old }
         requires now { now ≤ greatest_time }
         ensures comes { Comes table.now.rows now self.old self.new result (Read datagram.now) }
+        ensures costs { CostsHeard table.now.rows now datagram.now self.old self.new result steps.old steps.new }
         ensures steps { steps.new ≤ steps.old + 66 }
     {
         let pair = Pair {

@@ -1,7 +1,6 @@
 -- The table fits each end after an end was put, dropped or written, after an arrival and after a tick.
 use Rattle.std.proofs.Common.{◌≡◌, ℕ, Bool, true, false, List, Option, Some, None, Result, Ok, Err, refl, sym, ap, ◌∙◌}
 use Rattle.std.specs.Prelude.{is_some, if◌then◌else◌, OnErr, OnOk}
-use mathlib.Core.Path.{subst}
 use Rattle.book_base.specs.declared.address.Pair.{Pair}
 use Rattle.book_segments.specs.Segments.{Segment, Reading, Read, Bad as Unread}
 use Rattle.book_keys.specs.Rows.{Row}

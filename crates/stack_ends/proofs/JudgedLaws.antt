@@ -1,5 +1,5 @@
 -- What the check answers to a SYN is the judgement of the definitions.
-use Rattle.std.proofs.Common.{◌≡◌, ℕ, List, Result, Ok, Err, ap, sym, ◌∙◌}
+use Rattle.std.proofs.Common.{◌≡◌, ℕ, List, Ok, Err, ap, sym, ◌∙◌}
 use Rattle.book_base.specs.declared.address.Pair.{Pair}
 use Rattle.book_segments.specs.Segments.{Segment}
 use Rattle.book_keys.specs.Rows.{Row}
@@ -10,7 +10,7 @@ use Rattle.book_endpoint.specs.declared.verdict.Verdict.{Verdict}
 use Rattle.book_endpoint.specs.declared.verdict.Verdict.TheVariants as verdicts
 use Rattle.ao_check.specs.Verdicts.{IsRefusal, Tells}
 use Rattle.stack_ends.specs.declared.ends.Ends.{Ends}
-use Rattle.stack_ends.specs.Arrivals.{IsJudged, syn_judged}
+use Rattle.stack_ends.specs.Arrivals.{syn_judged}
 use Rattle.stack_ends.specs.Stands.{Stands}
 
 -- under the rows and the clock of the ends

@@ -16,11 +16,12 @@ use Rattle.tcp_endpoint.specs.declared.endpoint.Endpoint.{Endpoint}
 use Rattle.tcp_endpoint.specs.declared.send.GiveAnswer.{GiveAnswer}
 use Rattle.tcp_endpoint.specs.declared.send.GiveAnswer.TheVariants as given
 use Rattle.tcp_endpoint.specs.Answers.{give_answer, offered}
-use Rattle.tcp_endpoint.specs.Emissions.{IsMade, Emits as EmitsAs, MakesNone, Resends as ResendsAs, ResendsNone, state_after}
-use Rattle.tcp_endpoint.specs.Ends.{Stands}
+use Rattle.tcp_endpoint.specs.Emissions.{EmitCosts, IsMade, Emits as EmitsAs, MakesNone, ResendCosts, Resends as ResendsAs, ResendsNone, state_after}
+use Rattle.tcp_endpoint.specs.Ends.{Stands, keys_kept}
 use Rattle.book_stack.specs.Watches.{awaits, end_front}
 use Rattle.stack_ends.specs.declared.send.Spoken.{Spoken}
 use Rattle.stack_ends.specs.Calls.{given_as}
+use Rattle.stack_ends.specs.Costs.{CostsSaid}
 use Rattle.stack_ends.specs.Said.{Leaves, Speaks, said, said_again}
 
 -- ---- whether more may be given
@@ -114,3 +115,15 @@ pub leaves_again : (before after : List ℕ) (a : Resent) → (ResendsNone a →
 leaves_again before after resents.Nothing h = h tt
 leaves_again before after resents.NoKey h = h tt
 leaves_again before after (resents.Segment m) h = tt
+
+-- ---- the work
+
+pub costs_of : (e f : Endpoint) (a : Emission) (old new : ℕ) → EmitCosts (keys_kept e) (keys_kept f) a old new → CostsSaid (said a) old new
+costs_of e f emissions.Idle old new c = c
+costs_of e f emissions.NoKey old new c = c
+costs_of e f (emissions.Segment m) old new c = c.most
+
+pub costs_again : (e f : Endpoint) (a : Resent) (old new : ℕ) → ResendCosts (keys_kept e) (keys_kept f) a old new → CostsSaid (said_again a) old new
+costs_again e f resents.Nothing old new c = c
+costs_again e f resents.NoKey old new c = c
+costs_again e f (resents.Segment m) old new c = c.most

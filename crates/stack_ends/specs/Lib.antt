@@ -3,3 +3,4 @@ pub mod Arrivals
 pub mod Rows
 pub mod Said
 pub mod Stands
+pub mod Costs

@@ -3,6 +3,7 @@ ghost use Rattle.std.specs.Prelude.{◌≡◌, ◌≤◌, ◌+◌, List, true};
 ghost use Rattle.book_keys.specs.Rows.{Row};
 ghost use Rattle.book_segments.specs.Segments.{Read, SYN, has};
 ghost use Rattle.book_cmd_node.specs.NodeRuns.{NodeState};
+ghost use Rattle.node_ends.specs.Costs.{CostsHeard};
 ghost use Rattle.stack_ends.specs.Arrivals.{IsJudged, Meets, syn_judged};
 ghost use Rattle.stack_ends.specs.Stands.{Stands, most_of};
 
@@ -17,7 +18,8 @@ use tcp_segment::Datagram;
 impl Ends {
     /// A datagram that was read comes: `NoConnection` exactly where no end is held for its pair; else the
     /// end of the pair answers (RFC 9293, section 3.10.7), and tells the TCP-AO option of a segment that
-    /// passed. At most 66 steps are counted.
+    /// passed. At most 66 steps are counted: none where no end is held; else at most one derivation of a
+    /// traffic key, and at most 65 links where a piece passed, as the end counts them.
     pub fn hear_datagram<'a, L: Ledger>(
         &mut self,
         datagram: &Datagram<'a>,
@@ -25,6 +27,7 @@ impl Ends {
     ) -> NodeArrival<'a>
         ensures meets { (rows : List Row) (n : NodeState) → Stands self.old rows n
             → Meets self.new rows n result (Read datagram.now) }
+        ensures costs { CostsHeard self.old.table.rows self.old.clock datagram.now self.old.node self.new.node result steps.old steps.new }
         ensures most { most_of self.new ≡ most_of self.old }
         ensures steps { steps.new ≤ steps.old + 66 }
     {

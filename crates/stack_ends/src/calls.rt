@@ -6,6 +6,7 @@ ghost use Rattle.book_keys.specs.Rows.{Row};
 ghost use Rattle.book_cmd_node.specs.declared.node.Act.TheVariants as act;
 ghost use Rattle.book_cmd_node.specs.NodeRuns.{NodeState, held_end};
 ghost use Rattle.stack_ends.specs.Calls.{Asking, CallsAt, Gives, IsDone, Takes, Tells, acting};
+ghost use Rattle.stack_ends.specs.Costs.{CostsAsked};
 ghost use Rattle.stack_ends.specs.Said.{LeavesIf};
 ghost use Rattle.stack_ends.specs.Stands.{Stands, most_of};
 
@@ -95,7 +96,8 @@ impl Ends {
     }
 
     /// The end of the pair makes its next segment in front of `room`, which has at least 1,500 bytes, and
-    /// stays where none is made. `None` exactly where the pair isn't held. At most one step is counted.
+    /// stays where none is made. `None` exactly where the pair isn't held. At most one step is counted, for
+    /// the traffic key of a segment, and none where none is made.
     pub fn speak<L: Ledger>(
         &mut self,
         pair: &Pair,
@@ -106,6 +108,7 @@ impl Ends {
         ensures called { (rows : List Row) (n : NodeState) → Stands self.old rows n
             → let q : Asking = record { rows = rows; node = n; pair = pair.now; answers = acting act.Send } in CallsAt self.new q result (Tells room.new) (held_end pair.now n.ends) }
         ensures room { LeavesIf room.old room.new result }
+        ensures costs { CostsAsked result steps.old steps.new }
         ensures most { most_of self.new ≡ most_of self.old }
     {
         match self.node.end_mut(pair) {
@@ -125,6 +128,7 @@ impl Ends {
         ensures called { (rows : List Row) (n : NodeState) → Stands self.old rows n
             → let q : Asking = record { rows = rows; node = n; pair = pair.now; answers = acting act.Resend } in CallsAt self.new q result (Tells room.new) (held_end pair.now n.ends) }
         ensures room { LeavesIf room.old room.new result }
+        ensures costs { CostsAsked result steps.old steps.new }
         ensures most { most_of self.new ≡ most_of self.old }
     {
         match self.node.end_mut(pair) {

@@ -8,6 +8,7 @@ ghost use Rattle.node_ends.specs.Calls.{act_on};
 ghost use Rattle.tcp_endpoint.specs.Ends.{Stands, FitsEnd, pair_at_end};
 ghost use Rattle.tcp_endpoint.specs.Numbers.{expected_in};
 ghost use Rattle.book_stack.specs.Watches.{awaits, end_front};
+ghost use Rattle.stack_ends.specs.Costs.{CostsSaid};
 ghost use Rattle.stack_ends.specs.Said.{Leaves, Speaks, said, said_again};
 
 use ao_base::Steps;
@@ -140,6 +141,7 @@ pub(crate) fn speak<L: Ledger>(
     ensures room { Leaves room.old room.new result.says }
     ensures pair { pair_at_end end.new ≡ pair_at_end end.old }
     ensures fits { FitsEnd table.now.rows end.new }
+    ensures costs { CostsSaid result.says steps.old steps.new }
     ensures steps { steps.new ≤ steps.old + 1 }
 {
     let before = front_of(end);
@@ -168,6 +170,7 @@ pub(crate) fn repeat<L: Ledger>(
     ensures room { Leaves room.old room.new result.says }
     ensures pair { pair_at_end end.new ≡ pair_at_end end.old }
     ensures fits { FitsEnd table.now.rows end.new }
+    ensures costs { CostsSaid result.says steps.old steps.new }
     ensures steps { steps.new ≤ steps.old + 1 }
 {
     let before = front_of(end);

@@ -1,5 +1,5 @@
 use Rattle.std.proofs.Common.{refl}
-use Rattle.stack_ends.proofs.SpeakLaws.{leaves_of, speaks_of}
+use Rattle.stack_ends.proofs.SpeakLaws.{costs_of, leaves_of, speaks_of}
 use Rattle.stack_ends.proofs.send.speak.Goals as goal
 
 pub returns-clause-speaks : goal.returns-clause-speaks
@@ -11,3 +11,7 @@ returns-clause-speaks g c = λ s S.
 
 pub returns-clause-room : goal.returns-clause-room
 returns-clause-room g c = rw c.said.ensures (leaves_of c.args.room.now c.emit-emission.new.out c.emit-emission.result (λ none. (c.emit-emission.ensures.unchanged none).1))
+
+pub returns-clause-costs : goal.returns-clause-costs
+returns-clause-costs g c =
+    rw c.said.ensures (costs_of c.args.end.now c.emit-emission.new.self c.emit-emission.result c.args.steps.now c.emit-emission.new.steps c.emit-emission.ensures.costs)

@@ -8,19 +8,22 @@ use Rattle.ao_stack.proofs.SendLaws.{asked_so, asked_none, held_after, held_befo
 use Rattle.ao_stack.proofs.TellLaws.{spoken_from}
 use Rattle.ao_stack.proofs.stack.Stack.ask_pair.Goals as goal
 
-pub returns-in-None : goal.returns-in-None
-returns-in-None g c s S =
+pub returns-in-None-clause-turns : goal.returns-in-None-clause-turns
+returns-in-None-clause-turns g c s S =
     let k = c.args.self.now in
     let mid : Stack = record { ends = c.speak.new.self; watches = k.watches; alarms = k.alarms; line = k.line } in
     let M = missed k mid s S c.args.pair.now act.Send c.speak.ensures.most refl refl refl (Tells c.speak.new.room) (c.in-None.ensures.called s.rows s.node S.ends) in
     asked_none mid c.args.room.now c.speak.new.room c.args.now s c.args.pair.now M.1 M.0 c.in-None.ensures.room
 
-pub returns-in-Some : goal.returns-in-Some
-returns-in-Some g c s S =
+pub returns-in-Some-clause-turns : goal.returns-in-Some-clause-turns
+returns-in-Some-clause-turns g c s S =
     let k = c.args.self.now in
     let mid : Stack = record { ends = c.speak.new.self; watches = k.watches; alarms = k.alarms; line = k.line } in
     let p = c.args.pair.now in
     let H = has_called k mid s S p act.Send c.speak.ensures.most refl refl refl (Tells c.speak.new.room) c.in-Some.spoken (c.in-Some.ensures.called s.rows s.node S.ends) in
     asked_so mid _ s p c.args.now c.args.room.now c.speak.new.room c.made.new.room c.in-Some.spoken c.made.result H
     (c.follow_asked.ensures (called_at p (spoken_by s p H.state) s) H.stands (held_after s p H.state (spoken_by s p H.state) H.held))
-    (c.made.ensures c.args.room.now (spoken_by s p H.state).outcome (S.family p (held_before s p H.state H.held)) H.done.says_as (spoken_from s.rows p s.node.clock H.state) c.in-Some.ensures.room)
+    (c.made.ensures.makes c.args.room.now (spoken_by s p H.state).outcome (S.family p (held_before s p H.state H.held)) H.done.says_as (spoken_from s.rows p s.node.clock H.state) c.in-Some.ensures.room)
+
+pub returns-in-Some-clause-costs : goal.returns-in-Some-clause-costs
+returns-in-Some-clause-costs g c = c.made.ensures.costs c.args.steps.now c.speak.new.steps c.in-Some.ensures.costs

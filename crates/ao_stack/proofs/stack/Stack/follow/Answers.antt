@@ -1,8 +1,7 @@
-use Rattle.std.proofs.Common.{sym, ap, subst, ◌∙◌, is_some}
-use Rattle.book_stack.specs.declared.front.Change.{Change}
+use Rattle.std.proofs.Common.{ap, subst, ◌∙◌, is_some}
 use Rattle.book_stack.specs.declared.front.Front.{Front}
 use Rattle.book_stack.specs.Calls.{after_segment_heard}
-use Rattle.book_stack.specs.Watches.{end_front, moves_on}
+use Rattle.book_stack.specs.Watches.{moves_on}
 use Rattle.ao_stack.specs.Stands.{Stands}
 use Rattle.ao_stack.proofs.ArriveLaws.{front_found, front_missed}
 use Rattle.ao_stack.proofs.stack.Stack.follow.Goals as goal

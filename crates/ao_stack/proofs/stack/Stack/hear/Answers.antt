@@ -4,9 +4,11 @@ use Rattle.book_cmd_node.specs.NodeRuns.{held_end}
 use Rattle.book_stack.specs.Calls.{heard_pair}
 use Rattle.stack_ends.specs.Arrivals.{Meets}
 use Rattle.ao_stack.specs.Answers.{Does, IsHeard}
+use Rattle.ao_stack.specs.Costs.{CostsHeard}
 use Rattle.ao_stack.specs.Passed.{PassesAs}
 use Rattle.ao_stack.specs.declared.input.Heard.{Heard}
 use Rattle.ao_stack.specs.declared.stack.Stack.{Stack}
+use Rattle.ao_stack.proofs.CostLaws.{heard_costs}
 use Rattle.ao_stack.proofs.ArriveLaws.{heard_none, heard_some, moving_found, no_front, some_front, told_found}
 use Rattle.ao_stack.proofs.stack.Stack.hear.Goals as goal
 
@@ -27,3 +29,9 @@ pub returns-in-Some-clause-passed : goal.returns-in-Some-clause-passed
 returns-in-Some-clause-passed g c s S =
     subst (λ (x : Heard). PassesAs s (Read c.args.datagram.now) x) (sym c.heard_moving.ensures)
     (moving_found s (Read c.args.datagram.now) c.follow_told-moved.result c.hear_datagram-told.result (told_found c.hear_datagram-told.new.self s c.args.datagram.now c.hear_datagram-told.result _ (c.hear_datagram-told.ensures.meets s.rows s.node S.ends) refl))
+
+pub returns-in-Some-clause-costs : goal.returns-in-Some-clause-costs
+returns-in-Some-clause-costs g c =
+    let k = c.args.self.now.ends in
+    subst (λ (x : Heard). CostsHeard c.args.datagram.now x c.args.steps.now c.hear_datagram-told.new.steps) (sym c.heard_moving.ensures)
+    (heard_costs k.table.rows k.clock c.args.datagram.now k.node c.hear_datagram-told.new.self.node c.hear_datagram-told.result c.follow_told-moved.result c.args.steps.now c.hear_datagram-told.new.steps c.hear_datagram-told.ensures.costs)

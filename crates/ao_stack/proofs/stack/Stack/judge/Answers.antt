@@ -9,5 +9,5 @@ check_syn-requires-clause-source g c = sym (ap (λ (k : Pair). k.remote) c.requi
 pub check_syn-requires-clause-destination : goal.check_syn-requires-clause-destination
 check_syn-requires-clause-destination g c = sym (ap (λ (k : Pair). k.local) c.requires.reached)
 
-pub returns : goal.returns
-returns g c s S = subst (λ (k : Pair). IsJudged c.check_syn.result (syn_judged s.rows k s.node.clock c.args.datagram.now)) c.requires.reached (c.check_syn.ensures.judged s.rows s.node S.ends)
+pub returns-clause-judged : goal.returns-clause-judged
+returns-clause-judged g c s S = subst (λ (k : Pair). IsJudged c.check_syn.result (syn_judged s.rows k s.node.clock c.args.datagram.now)) c.requires.reached (c.check_syn.ensures.judged s.rows s.node S.ends)

@@ -5,7 +5,7 @@ use Rattle.book_segments.specs.Segments.{pair_reached}
 use Rattle.node_ends.specs.declared.answer.NodeArrival.TheVariants as answers
 use Rattle.node_ends.specs.Held.{end_at}
 use Rattle.node_ends.specs.Loans.{written}
-use Rattle.node_ends.proofs.NodeLaws.{comes_none, comes_some, found_at, of_entries, set_writes}
+use Rattle.node_ends.proofs.NodeLaws.{comes_none, comes_some, costs_none, costs_some, found_at, of_entries, set_writes}
 use Rattle.node_ends.proofs.node.Node.hear_datagram.Goals as goal
 use Rattle.node_ends.proofs.node.Node.hear_datagram.Goals.{in-None, in-Some}
 
@@ -43,4 +43,21 @@ returns-clause-comes g c =
             pair = w.hear_datagram.ensures.pair;
             fits = w.hear_datagram.ensures.fits;
           })
+    ]
+
+pub returns-clause-costs : goal.returns-clause-costs
+returns-clause-costs g c =
+    let rows = c.args.table.now.rows in
+    let q : Pair = record { local = c.destination.result; remote = c.source.result } in
+    let most = c.self.inside.most in
+    let es = c.self.inside.ends.entries in
+    elim c.match-get_mut.branch [
+      | in-None w ↦ costs_none rows c.args.now c.args.datagram.now c.args.self.now _ _ c.args.steps.now _ w.result-is (rw w.steps-is refl)
+      | in-Some w ↦
+          let e = w.in-Some.end.now in
+          let f = w.hear_datagram.new.self in
+          let found = found_at most es [] q c.args.self.now c.self.view_is (Some e) w.in-Some.ensures.value in
+          let new = set_writes most es (c.get_mut.follows.lender f).entries q c.args.self.now c.self.view_is f (c.get_mut.follows.holds f).0 in
+          costs_some rows c.args.now c.args.datagram.now c.args.self.now _ _ q e f w.hear_datagram.result c.args.steps.now _ found w.result-is
+          (rw w.self-inside-is new) (λ b. rw w.steps-is (w.hear_datagram.ensures.untouched b).1) (rw w.steps-is w.hear_datagram.ensures.costs)
     ]
