@@ -28,7 +28,8 @@ use std::sync::ledger::{Blank, Ledger};
 /// What is told of the datagram, where one was made, and it is as it is handed out.
 fn made(pair: &Pair, kind: Transmission, says: Says, room: &mut [u8]) -> Option<Outgoing>
     requires { 1500 ≤ length room.old }
-    ensures makes { (before : List ℕ) (o : NodeOutcome) → IsOneFamily pair.now.local.address pair.now.remote.address → SaysAs room.old says o → IsFromIf pair.now (segment_in o)
+    ensures makes { (before : List ℕ) (o : NodeOutcome) → IsOneFamily pair.now.local.address pair.now.remote.address
+        → SaysAs room.old says o → IsFromIf pair.now (segment_in o)
         → Leaves before room.old says → Makes pair.now kind before room.new result (segment_in o) }
     ensures costs { (old new : ℕ) → CostsSaid says old new → CostsOutput result old new }
 {
@@ -71,7 +72,8 @@ impl Stack {
     ) -> Option<Outgoing>
         requires time { now ≤ latest }
         requires room { 1500 ≤ length room.old }
-        ensures turns { (s : StackState) → Stands self.old s → Turns self.new room.old room.new result (asked_pair now pair.now s (held_end pair.now s.node.ends)) }
+        ensures turns { (s : StackState) → Stands self.old s
+            → Turns self.new room.old room.new result (asked_pair now pair.now s (held_end pair.now s.node.ends)) }
         ensures costs { CostsOutput result steps.old steps.new }
     {
         match self.ends.speak(pair, room, steps) {
@@ -111,7 +113,8 @@ impl Stack {
     ) -> Option<Outgoing>
         requires time { now ≤ latest }
         requires room { 1500 ≤ length room.old }
-        ensures turns { (s : StackState) → Stands self.old s → Turns self.new room.old room.new result (woken_pair now pair.now s (held_end pair.now s.node.ends)) }
+        ensures turns { (s : StackState) → Stands self.old s
+            → Turns self.new room.old room.new result (woken_pair now pair.now s (held_end pair.now s.node.ends)) }
         ensures costs { CostsOutput result steps.old steps.new }
     {
         match self.ends.repeat(pair, room, steps) {
@@ -162,7 +165,8 @@ impl Stack {
     ) -> Option<Outgoing>
         requires time { now ≤ latest }
         requires room { 1500 ≤ length room.old }
-        ensures turns { (s : StackState) → Stands self.old s → Turns self.new room.old room.new result (turn_of kind now s) }
+        ensures turns { (s : StackState) → Stands self.old s
+            → Turns self.new room.old room.new result (turn_of kind now s) }
         ensures costs { CostsOutput result steps.old steps.new }
     {
         match kind {
@@ -182,7 +186,8 @@ impl Stack {
     ) -> Option<Outgoing>
         requires time { now ≤ latest }
         requires room { 1500 ≤ length room.old }
-        ensures turns { (s : StackState) → Stands self.old s → Turns self.new room.old room.new result (turns (turn_limit kind s) (turn_of kind now) s) }
+        ensures turns { (s : StackState) → Stands self.old s
+            → Turns self.new room.old room.new result (turns (turn_limit kind s) (turn_of kind now) s) }
         ensures costs { CostsOutput result steps.old steps.new }
     {
         let count = self.turn_limit(kind);
@@ -204,7 +209,8 @@ impl Stack {
     ) -> Option<Outgoing>
         requires time { now ≤ latest }
         requires room { 1500 ≤ length room.old }
-        ensures turns { (s : StackState) → Stands self.old s → Turns self.new room.old room.new result (output_at now s) }
+        ensures turns { (s : StackState) → Stands self.old s
+            → Turns self.new room.old room.new result (output_at now s) }
         ensures costs { CostsOutput result steps.old steps.new }
     {
         self.set_clock(now);
@@ -231,7 +237,8 @@ impl Stack {
     ) -> Option<Outgoing>
         requires time { now ≤ latest }
         requires room { 1500 ≤ length room.old }
-        ensures handed { (s : StackState) → Stands self.old s → Follows self.new (Output now) s (IsHanded room.new (length_of result)) }
+        ensures handed { (s : StackState) → Stands self.old s
+            → Follows self.new (Output now) s (IsHanded room.new (length_of result)) }
         ensures told { (s : StackState) → Stands self.old s → MadeLast result (call (Output now) s).events }
         ensures untouched { (s : StackState) → Stands self.old s → result ≡ None → room.new ≡ room.old }
         ensures costs { CostsOutput result steps.old steps.new }
@@ -246,7 +253,8 @@ impl Stack {
         requires part { 0 < blank.parts }
         requires time { now ≤ latest }
         requires room { 1500 ≤ length room.old }
-        ensures handed { (s : StackState) → Stands self.old s → Follows self.new (Output now) s (IsHanded room.new (length_of result)) }
+        ensures handed { (s : StackState) → Stands self.old s
+            → Follows self.new (Output now) s (IsHanded room.new (length_of result)) }
         ensures told { (s : StackState) → Stands self.old s → MadeLast result (call (Output now) s).events }
         ensures untouched { (s : StackState) → Stands self.old s → result ≡ None → room.new ≡ room.old }
     {
@@ -259,7 +267,8 @@ impl Stack {
     pub fn output_told(&mut self, now: u64, room: &mut [u8]) -> Option<Outgoing>
         requires time { now ≤ latest }
         requires room { 1500 ≤ length room.old }
-        ensures handed { (s : StackState) → Stands self.old s → Follows self.new (Output now) s (IsHanded room.new (length_of result)) }
+        ensures handed { (s : StackState) → Stands self.old s
+            → Follows self.new (Output now) s (IsHanded room.new (length_of result)) }
         ensures told { (s : StackState) → Stands self.old s → MadeLast result (call (Output now) s).events }
         ensures untouched { (s : StackState) → Stands self.old s → result ≡ None → room.new ≡ room.old }
     {
@@ -270,7 +279,8 @@ impl Stack {
     pub fn output(&mut self, now: u64, room: &mut [u8]) -> Option<usize>
         requires time { now ≤ latest }
         requires room { 1500 ≤ length room.old }
-        ensures handed { (s : StackState) → Stands self.old s → Follows self.new (Output now) s (IsHanded room.new result) }
+        ensures handed { (s : StackState) → Stands self.old s
+            → Follows self.new (Output now) s (IsHanded room.new result) }
         ensures untouched { (s : StackState) → Stands self.old s → result ≡ None → room.new ≡ room.old }
     {
         match self.output_told(now, room) {

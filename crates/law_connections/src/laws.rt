@@ -14,7 +14,8 @@ ghost use Rattle.law_connections.specs.Turns.{HasItsTurn};
 /// those of a node that holds nothing else and meets these events by themselves, each at the rows
 /// that the stack then has.
 pub fn each_is_single_at_its_rows()
-    ensures { (pair : Pair) (rows : List Row) (most : ℕ) (calls : List Call) → most ≤ most_ends → IsSingleAtItsRows pair rows most calls }
+    ensures { (pair : Pair) (rows : List Row) (most : ℕ) (calls : List Call) → most ≤ most_ends
+        → IsSingleAtItsRows pair rows most calls }
 {}
 
 /// A connection that is held and before which so many others stand in line is asked for its next

@@ -27,7 +27,8 @@ impl Ends {
     ) -> NodeArrival<'a>
         ensures meets { (rows : List Row) (n : NodeState) → Stands self.old rows n
             → Meets self.new rows n result (Read datagram.now) }
-        ensures costs { CostsHeard self.old.table.rows self.old.clock datagram.now self.old.node self.new.node result steps.old steps.new }
+        ensures costs { CostsHeard self.old.table.rows self.old.clock datagram.now self.old.node self.new.node result
+            steps.old steps.new }
         ensures most { most_of self.new ≡ most_of self.old }
         ensures steps { steps.new ≤ steps.old + 66 }
     {
