@@ -1,7 +1,7 @@
 //! A shim: the pairs of sockets whose datagrams pass through.
 ghost use Rattle.std.specs.Prelude.{◌≡◌, ◌+◌, ◌≤◌, ◌^◌, [], length, take, slice_get, IfOk, IfErr, OnOk, OnErr};
 ghost use Rattle.shim_pairs.specs.Counting.{arriving_counted, leaving_counted, no_counters};
-ghost use Rattle.shim_pairs.specs.Holdings.{IsRefused, restored, saved_at};
+ghost use Rattle.shim_pairs.specs.Holdings.{IsRefused, carried, restored, saved_at};
 ghost use Rattle.shim_pairs.specs.Passing.{Enters, IsUnsent, IsUntaken, Leaves, Stays};
 
 use crate::answer::{PairUnsent, PairUntaken, Passed};
@@ -46,7 +46,7 @@ impl Shim {
         requires { 1 ≤ most }
         ensures { IfOk result (λ s. s ≡ record { held = record { tables = tables; most = most; entries = [] }; counters = no_counters }) }
     {
-        let pairs = Pairs::new(alloc, tables, most)?;
+        let pairs = Pairs::new(alloc, tables, usize::from(most))?;
         let copy = vec![in alloc; 0; MOST_BYTES]?;
         Ok(Shim {
             pairs,
@@ -155,5 +155,25 @@ impl Shim {
         ensures counters { self.new.counters ≡ self.old.counters }
     {
         self.pairs.restore(now, saved)
+    }
+
+    /// Goes on at `now`, in seconds since 1970, with the tables of another key file: each connection that is held
+    /// is brought back, in the order of pairs, as `restore` does of what `saved` tells. One whose own address no
+    /// node has any more is let go, and so is a pair without a connection. The counters go on.
+    ///
+    /// It takes all its memory anew, as `new` does for as many pairs, before it frees the old one; on `AllocError`,
+    /// want of memory, nothing has changed. No traffic key is derived.
+    pub fn rekey(&mut self, alloc: Global, now: u64, tables: Tables) -> Result<(), AllocError>
+        ensures carried { OnOk result (self.new.held ≡ carried now self.old.held tables) }
+        ensures unchanged { OnErr result (self.new ≡ self.old) }
+        ensures counters { self.new.counters ≡ self.old.counters }
+    {
+        match self.pairs.carried(alloc, now, tables) {
+            Err(why) => Err(why),
+            Ok(pairs) => {
+                self.pairs = pairs;
+                Ok(())
+            }
+        }
     }
 }
