@@ -92,8 +92,8 @@ static void avoid_zero(uint8_t *datagram, size_t length) {
 static unsigned ask(struct program *p, enum way way, uint16_t mtu, uint8_t *datagram, size_t *length, size_t room,
                     struct aotcp_shim_told *told) {
     memset(told, 0, sizeof *told);
-    int code = way == OUT ? aotcp_shim_outbound(shim_of(p), p->tally.at, datagram, room, length, told)
-                          : aotcp_shim_inbound(shim_of(p), p->tally.at, mtu, datagram, room, length, told);
+    int code = way == OUT ? aotcp_shim_outbound(&p->shim, p->tally.at, datagram, room, length, told)
+                          : aotcp_shim_inbound(&p->shim, p->tally.at, mtu, datagram, room, length, told);
     return code == AOTCP_OK ? cause_of(told) : CAUSE_FAILED;
 }
 
