@@ -10,7 +10,7 @@ use Rattle.book_macs.specs.Contexts.{context_of}
 use Rattle.book_keys.specs.Coordination.{Sending, choose}
 use Rattle.book_endpoint.specs.States.{number_limit}
 use Rattle.book_endpoint.specs.Verdicts.{segment_number}
-use Rattle.book_endpoint.specs.Emissions.{ao_length}
+use Rattle.book_endpoint.specs.Emissions.{ao_length, no_mac}
 use Rattle.book_shim.specs.declared.kept.Kept.{Kept}
 use Rattle.book_shim.specs.declared.refusal.Unsent.{Unsent}
 use Rattle.book_shim.specs.declared.refusal.Unsent.TheVariants.{Bad, Foreign, Unkeyed, Signed, NoContext, Range, NoKey, NoRoom, TooLong}
@@ -22,7 +22,7 @@ use Rattle.ao_check.specs.Bonds.{steps_of}
 use Rattle.law_shim.proofs.Sealing.{ok_is}
 use Rattle.ao_shim.specs.Guards.{is_single_use, sealing_steps}
 use Rattle.ao_shim.proofs.KeptLaws.{entered_later, later_kept, once_entered}
-use Rattle.book_shim.specs.Leaving.{Sealed, Seal, signs, entered, kept_for, no_code, with_ao, sealed_with, send_within, send_sealed, send_read, outbound}
+use Rattle.book_shim.specs.Leaving.{Sealed, signs, entered, kept_for, with_ao, sealed_with, send_within, send_sealed, send_read, outbound}
 
 -- ---- what was read
 
@@ -80,14 +80,14 @@ module _ (here : Setting) (pair : Pair) (e : Kept) (d : Segment) where
 
   pub too_long : (x : List ℕ) (n : ℕ) (s : Sending) (area : List ℕ) → keyed ≡ true → signed ≡ false → context_of d (own_isn (kept_for e d)) (peer_isn (kept_for e d)) ≡ Some x → segment_number d (Some (kept_for e d).sent) ≡ Some n
       → nat_le (n + segment_length d) number_limit ≡ true → choose e.current here.rows pair here.now ≡ Some s → fitted (40 - ao_length s) d.area ≡ Some area
-      → nat_le (length_in_header d.ip (with_ao d area s (no_code s))) 65535 ≡ false → send_within here pair e d ≡ Err TooLong
+      → nat_le (length_in_header d.ip (with_ao d area s (no_mac s))) 65535 ≡ false → send_within here pair e d ≡ Err TooLong
   unfolding send_within
   too_long x n s area h t c m l k f w = rw (h, t, c, m, l, k, f, w) refl
 
   pub within : (x : List ℕ) (n : ℕ) (s : Sending) (area : List ℕ) → keyed ≡ true → signed ≡ false → context_of d (own_isn (kept_for e d)) (peer_isn (kept_for e d)) ≡ Some x → segment_number d (Some (kept_for e d).sent) ≡ Some n
       → nat_le (n + segment_length d) number_limit ≡ true → choose e.current here.rows pair here.now ≡ Some s → fitted (40 - ao_length s) d.area ≡ Some area
-      → nat_le (length_in_header d.ip (with_ao d area s (no_code s))) 65535 ≡ true
-      → send_within here pair e d ≡ Ok (sealed_with e d area (record { sending = s; context = x; number = n }))
+      → nat_le (length_in_header d.ip (with_ao d area s (no_mac s))) 65535 ≡ true
+      → send_within here pair e d ≡ Ok (sealed_with e d area s x n)
   unfolding send_within
   within x n s area h t c m l k f w = rw (h, t, c, m, l, k, f, w) refl
 
@@ -102,12 +102,12 @@ same_cost true one two h = refl
 same_cost false one two h = ap (steps_of false) (h refl)
 
 -- the keys that are kept count, unless another connection began
-pub costs : (g : Kept) (d : Segment) (after : Kept) (area : List ℕ) (u : Seal) (m : Sealed) (keys used : Cache) (row old new : ℕ) → ◌≡◌ {A = Result Sealed Unsent} (Ok (sealed_with (entered g d) d area u)) (Ok m)
-    → row ≡ u.sending.number → after ≡ entered g d → (g.isns ≡ after.isns → used ≡ keys) → new ≡ old + steps_of (is_single_use after d) (kept used row Outbound) → new ≡ old + sealing_steps g keys m
-costs g d after area u m keys used row old new e n k h count =
-    let is : sealed_with (entered g d) d area u ≡ m = ok_is {F = Unsent} _ m e in
+pub costs : (g : Kept) (d : Segment) (after : Kept) (area : List ℕ) (s : Sending) (context : List ℕ) (n : ℕ) (m : Sealed) (keys used : Cache) (row old new : ℕ) → ◌≡◌ {A = Result Sealed Unsent} (Ok (sealed_with (entered g d) d area s context n)) (Ok m)
+    → row ≡ s.number → after ≡ entered g d → (g.isns ≡ after.isns → used ≡ keys) → new ≡ old + steps_of (is_single_use after d) (kept used row Outbound) → new ≡ old + sealing_steps g keys m
+costs g d after area s context n m keys used row old new e row_is k h count =
+    let is : sealed_with (entered g d) d area s context n ≡ m = ok_is {F = Unsent} _ m e in
     let once : is_single_use after d ≡ is_single_use g d = ap (λ (x : Kept). is_single_use x d) k ∙ once_entered g d in
-    let same : (is_single_use g d ≡ false) → kept used row Outbound ≡ kept keys u.sending.number Outbound = λ single.
-    ap (λ (c : Cache). kept c row Outbound) (h (ap (λ (x : Kept). x.isns) (sym (k ∙ entered_later g d (later_kept g d single))))) ∙ ap (λ (i : ℕ). kept keys i Outbound) n in
+    let same : (is_single_use g d ≡ false) → kept used row Outbound ≡ kept keys s.number Outbound = λ single.
+    ap (λ (c : Cache). kept c row Outbound) (h (ap (λ (x : Kept). x.isns) (sym (k ∙ entered_later g d (later_kept g d single))))) ∙ ap (λ (i : ℕ). kept keys i Outbound) row_is in
     count ∙ (ap (λ (b : Bool). old + steps_of b (kept used row Outbound)) once
-    ∙ (ap (λ (i : ℕ). old + i) (same_cost (is_single_use g d) (kept used row Outbound) (kept keys u.sending.number Outbound) same) ∙ ap (λ (x : Sealed). old + sealing_steps g keys x) is))
+    ∙ (ap (λ (i : ℕ). old + i) (same_cost (is_single_use g d) (kept used row Outbound) (kept keys s.number Outbound) same) ∙ ap (λ (x : Sealed). old + sealing_steps g keys x) is))

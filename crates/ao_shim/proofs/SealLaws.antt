@@ -15,13 +15,14 @@ use Rattle.book_macs.specs.Keys.{traffic_key, mac}
 use Rattle.book_macs.proofs.LengthLaws.{twelve_or_sixteen}
 use Rattle.book_keys.specs.Rows.{Row}
 use Rattle.book_keys.specs.Coordination.{Sending}
-use Rattle.book_endpoint.specs.Emissions.{ao_length}
+use Rattle.book_endpoint.specs.Emissions.{ao_length, written_ao, no_mac}
 use Rattle.book_shim.specs.Relaying.{fitted, relaid, with_area, length_in_header, going}
-use Rattle.book_shim.specs.Leaving.{signs, ao_bytes, ao_last, no_code, with_ao, input_for, code_for}
+use Rattle.book_shim.specs.Leaving.{signs, ao_last, as_sent, with_ao, input_for, code_for}
 use Rattle.law_shim.proofs.Sealing.{is_fitted, fitted_words, no_code_long, ao_area_words}
 use Rattle.law_shim.proofs.Returning.{fitted_found, front_listed}
 use Rattle.shim_relay.specs.Laying.{laid}
-use Rattle.shim_relay.proofs.LaidLaws.{laid_ip_fits, laid_long, relaid_long, relaid_told}
+use Rattle.shim_relay.proofs.LaidLaws.{laid_ip_fits, laid_long, relaid_told}
+use Rattle.shim_relay.proofs.SumLaws.{sent_long}
 use Rattle.ao_mac.specs.Macs.{IsMacOf}
 use Rattle.ao_shim.specs.Guards.{Written}
 use Rattle.ao_shim.specs.Plans.{ao_after, HasOne}
@@ -60,10 +61,10 @@ pub record Beside (d : Segment) (area : List ℕ) (s : Sending) : Type 0 where
   pub mac : mac_length_of s.row.algorithm ≤ 16
   pub room : length area + (4 + mac_length_of s.row.algorithm) ≤ 40
   pub less : length area ≤ length d.area
-  pub long : length (area ++ ao_bytes s (no_code s)) ≡ length area + (4 + mac_length_of s.row.algorithm)
-  pub words : length (area ++ ao_bytes s (no_code s)) % 4 ≡ 0
-  pub found : find_ao (area ++ ao_bytes s (no_code s)) ≡ One (ao_last area s (no_code s))
-  pub list : AreListed (options_of (area ++ ao_bytes s (no_code s)))
+  pub long : length (area ++ written_ao s (no_mac s)) ≡ length area + (4 + mac_length_of s.row.algorithm)
+  pub words : length (area ++ written_ao s (no_mac s)) % 4 ≡ 0
+  pub found : find_ao (area ++ written_ao s (no_mac s)) ≡ One (ao_last area s (no_mac s))
+  pub list : AreListed (options_of (area ++ written_ao s (no_mac s)))
 
 pub beside : (d : Segment) (area : List ℕ) (s : Sending) → Fits d → list_any signs (plains (listed (options_of d.area))) ≡ false → fitted (40 - ao_length s) d.area ≡ Some area → Beside d area s
 beside d area s f none e =
@@ -75,22 +76,22 @@ beside d area s f none e =
       mac = m;
       room = omega arith;
       less = subst (λ (l : List ℕ). length l ≤ length d.area) (sym fit.is) (rewritten_long (going fit.trim) d.area (going_shortens fit.trim) f.listed f.area.words);
-      long = omega (arith, length-append area (ao_bytes s (no_code s)), n);
+      long = omega (arith, length-append area (written_ao s (no_mac s)), n);
       words = ao_area_words s area (fitted_words (40 - ao_length s) d.area area e);
-      found = fitted_found d area s (no_code s) f none fit;
-      list = front_listed d area s (no_code s) f none fit;
+      found = fitted_found d area s (no_mac s) f none fit;
+      list = front_listed d area s (no_mac s) f none fit;
     }
 
 pub blank_is : (area : List ℕ) (s : Sending) (key_id rnext n : ℕ) → key_id ≡ s.key_id → rnext ≡ s.rnext_key_id → n ≡ mac_length_of s.row.algorithm
-    → area ++ ao_after key_id rnext (replicate n 0) ≡ area ++ ao_bytes s (no_code s)
+    → area ++ ao_after key_id rnext (replicate n 0) ≡ area ++ written_ao s (no_mac s)
 blank_is area s key_id rnext n a b c = rw (a, b, c) refl
 
-pub whole_is : (area : List ℕ) (s : Sending) (key_id rnext : ℕ) (code : List ℕ) → key_id ≡ s.key_id → rnext ≡ s.rnext_key_id → area ++ ao_after key_id rnext code ≡ area ++ ao_bytes s code
+pub whole_is : (area : List ℕ) (s : Sending) (key_id rnext : ℕ) (code : List ℕ) → key_id ≡ s.key_id → rnext ≡ s.rnext_key_id → area ++ ao_after key_id rnext code ≡ area ++ written_ao s code
 whole_is area s key_id rnext code a b = rw (a, b) refl
 
 -- with a MAC of its length there are as many bytes
-pub whole_long : (area : List ℕ) (s : Sending) (code : List ℕ) → length code ≡ mac_length_of s.row.algorithm → length (area ++ ao_bytes s code) ≡ length area + (4 + mac_length_of s.row.algorithm)
-whole_long area s code e = omega (arith, length-append area (ao_bytes s code), e)
+pub whole_long : (area : List ℕ) (s : Sending) (code : List ℕ) → length code ≡ mac_length_of s.row.algorithm → length (area ++ written_ao s code) ≡ length area + (4 + mac_length_of s.row.algorithm)
+whole_long area s code e = omega (arith, length-append area (written_ao s code), e)
 
 -- ---- what is laid out is read again, with its TCP-AO option
 
@@ -119,26 +120,26 @@ pub told_with : (d : Segment) (one two : List ℕ) → length one ≡ length two
 told_with d one two e h = subst (λ (n : ℕ). n ≤ 65535) (relaid_told d.ip d two ∙ sym (told_as d one two e)) h
 
 -- laid out with zeros, and again with the MAC, it is what is sealed
-pub seals : (d : Segment) (area : List ℕ) (s : Sending) (n : ℕ) (context code blank whole out0 out1 out2 : List ℕ) (k m : ℕ) → Fits d → blank ≡ area ++ ao_bytes s (no_code s) → whole ≡ area ++ ao_bytes s code
-    → length code ≡ mac_length_of s.row.algorithm → find_ao blank ≡ One (ao_last area s (no_code s))
+pub seals : (d : Segment) (area : List ℕ) (s : Sending) (n : ℕ) (context code blank whole out0 out1 out2 : List ℕ) (k m : ℕ) → Fits d → blank ≡ area ++ written_ao s (no_mac s) → whole ≡ area ++ written_ao s code
+    → length code ≡ mac_length_of s.row.algorithm → find_ao blank ≡ One (ao_last area s (no_mac s))
     → IsMacOf code s.row.algorithm (traffic_key s.row.algorithm s.row.master context) (n / ring) (laid d blank) s.row.with_options
-    → k ≡ length (spell (laid d blank)) → out1 ≡ spell (laid d blank) ++ drop k out0 → m ≡ length (spell (relaid d whole)) → out2 ≡ spell (relaid d whole) ++ drop m out1
-    → Written (spell (with_ao d area s (code_for s context (input_for d area s n)))) out0 out2 m
+    → k ≡ length (spell (laid d blank)) → out1 ≡ spell (laid d blank) ++ drop k out0 → m ≡ length (spell (as_sent (relaid d whole))) → out2 ≡ spell (as_sent (relaid d whole)) ++ drop m out1
+    → Written (spell (as_sent (with_ao d area s (code_for s context (input_for d area s n))))) out0 out2 m
 seals d area s n context code blank whole out0 out1 out2 k m f eb ew long found is ek e1 em e2 =
     let nl = no_code_long s in
-    let lb : length blank ≡ length area + (4 + mac_length_of s.row.algorithm) = ap (λ (l : List ℕ). length l) eb ∙ whole_long area s (no_code s) nl in
+    let lb : length blank ≡ length area + (4 + mac_length_of s.row.algorithm) = ap (λ (l : List ℕ). length l) eb ∙ whole_long area s (no_mac s) nl in
     let lw : length whole ≡ length area + (4 + mac_length_of s.row.algorithm) = ap (λ (l : List ℕ). length l) ew ∙ whole_long area s code long in
-    let same : m ≡ k = omega (arith, laid_long d blank d.checksum f, relaid_long d whole f) in
+    let same : m ≡ k = omega (arith, laid_long d blank d.checksum f, sent_long d whole f) in
     let rest : drop m out1 ≡ drop m out0 =
     ap (λ (l : List ℕ). drop m l) e1 ∙ (drop_at (spell (laid d blank)) (drop k out0) m (omega (arith, same, ek)) ∙ ap (λ (j : ℕ). drop j out0) (sym same)) in
-    let input : mac_input n (laid d blank) (ao_last area s (no_code s)) s.row.with_options ≡ input_for d area s n =
-    sym (input_relaid n d blank (ao_last area s (no_code s)) s.row.with_options) ∙ ap (λ (l : List ℕ). mac_input n (relaid d l) (ao_last area s (no_code s)) s.row.with_options) eb in
+    let input : mac_input n (laid d blank) (ao_last area s (no_mac s)) s.row.with_options ≡ input_for d area s n =
+    sym (input_relaid n d blank (ao_last area s (no_mac s)) s.row.with_options) ∙ ap (λ (l : List ℕ). mac_input n (relaid d l) (ao_last area s (no_mac s)) s.row.with_options) eb in
     let code_is : code ≡ code_for s context (input_for d area s n) =
-    is n (ao_last area s (no_code s)) refl found ∙ ap (λ (l : List ℕ). mac s.row.algorithm (traffic_key s.row.algorithm s.row.master context) l) input in
+    is n (ao_last area s (no_mac s)) refl found ∙ ap (λ (l : List ℕ). mac s.row.algorithm (traffic_key s.row.algorithm s.row.master context) l) input in
     let segment : relaid d whole ≡ with_ao d area s (code_for s context (input_for d area s n)) = ap (relaid d) ew ∙ ap (λ (l : List ℕ). with_ao d area s l) code_is in
     record {
-      count_is = em ∙ ap (λ (x : Segment). length (spell x)) segment;
-      new_is = e2 ∙ (ap (λ (l : List ℕ). spell (relaid d whole) ++ l) rest ∙ ap (λ (x : Segment). spell x ++ drop m out0) segment);
+      count_is = em ∙ ap (λ (x : Segment). length (spell (as_sent x))) segment;
+      new_is = e2 ∙ (ap (λ (l : List ℕ). spell (as_sent (relaid d whole)) ++ l) rest ∙ ap (λ (x : Segment). spell (as_sent x) ++ drop m out0) segment);
     }
 
 -- ---- a MAC by equal parts

@@ -11,11 +11,11 @@ use Rattle.book_macs.specs.Contexts.{context_of, bytes_of}
 use Rattle.book_macs.specs.Keys.{traffic_key}
 use Rattle.book_keys.specs.Rows.{Row}
 use Rattle.book_keys.specs.Coordination.{Sending}
-use Rattle.book_endpoint.specs.Emissions.{ao_length}
+use Rattle.book_endpoint.specs.Emissions.{ao_length, no_mac}
 use Rattle.book_shim.specs.declared.kept.Kept.{Kept}
 use Rattle.book_shim.specs.Keeping.{own_isn, peer_isn}
 use Rattle.book_shim.specs.Relaying.{fitted, length_in_header}
-use Rattle.book_shim.specs.Leaving.{signs, entered, no_code, with_ao, input_for, code_for}
+use Rattle.book_shim.specs.Leaving.{as_sent, signs, entered, with_ao, input_for, code_for}
 use Rattle.book_shim.specs.Leaving.{sealed_with, send_sealed, kept_for}
 use Rattle.key_coordination.specs.Sendings.{told}
 use Rattle.ao_kdf.specs.declared.way.Way.TheVariants.{Outbound}
@@ -45,12 +45,13 @@ pub record IsReady (rows : List Row) (d : Segment) (p : Plan) : Type 0 where
   pub mac_length_is : p.mac_length ≡ mac_length_of s.row.algorithm
   pub plain : list_any signs (plains (listed (options_of d.area))) ≡ false
   pub fitted_is : fitted (40 - ao_length s) d.area ≡ Some p.fitted
-  pub whole : length_in_header d.ip (with_ao d p.fitted s (no_code s)) ≤ 65535
+  pub whole : length_in_header d.ip (with_ao d p.fitted s (no_mac s)) ≤ 65535
 
 -- a datagram as its plan seals it (RFC 5925, section 7.4)
 abbrev pub sealed_by : Segment → Plan → Sending → Segment
 sealed_by d p s =
-    with_ao d p.fitted s (code_for s (bytes_of p.context) (input_for d p.fitted s p.number))
+    as_sent (with_ao d p.fitted s
+    (code_for s (bytes_of p.context) (input_for d p.fitted s p.number)))
 
 -- what a datagram is sealed with as the definitions say, whatever the MTU (own)
 pub record IsPlanned (rows : List Row) (now : ℕ) (pair : Pair) (g : Kept) (d : Segment)
@@ -62,8 +63,8 @@ pub record IsPlanned (rows : List Row) (now : ℕ) (pair : Pair) (g : Kept) (d :
   pub ends : p.number + segment_length d ≤ 2 ^ 63
   pub sent_is : (mtu : ℕ)
       → send_sealed (record { rows = rows; now = now; mtu = mtu }) pair g d
-      ≡ Ok (sealed_with (entered g d) d p.fitted
-      (record { sending = ready.s; context = bytes_of p.context; number = p.number }))
+      ≡ Ok (sealed_with (entered g d) d p.fitted ready.s
+      (bytes_of p.context) p.number)
 
 -- where a key is kept for a segment whose key isn't used once, it is that of the plan's row and
 -- context (own)

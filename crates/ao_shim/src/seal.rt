@@ -24,7 +24,7 @@ use ao_mac::MacBytes;
 use book_shim::Kept;
 use key_table::Table;
 use shim_kept::resets;
-use shim_relay::{lay_out, relay};
+use shim_relay::{lay_out, relay_sent};
 use std::sync::ledger::Ledger;
 use tcp_options::AoFound;
 use tcp_segment::{Datagram, Flag, read_datagram};
@@ -100,7 +100,7 @@ fn lay_blank(out: &mut [u8], bytes: &[u8], datagram: &Datagram<'_>, area: &[u8])
     lay_out(out, bytes, datagram, area)
 }
 
-/// Seals a datagram by its plan: it is laid out with its MAC zero, and again with the MAC.
+/// Seals a datagram by its plan: it is laid out with its MAC zero, and again with the MAC, as it is sent.
 pub(crate) fn seal<L: Ledger>(
     keys: &mut KeyCache,
     table: &Table,
@@ -126,5 +126,5 @@ pub(crate) fn seal<L: Ledger>(
     lay_blank(out, bytes, datagram, blank.as_slice());
     let code = code_of(keys, table, plan, out, once, steps);
     let whole = with_ao(&plan.fitted, plan.sending, code.as_slice());
-    relay(out, bytes, datagram, whole.as_slice())
+    relay_sent(out, bytes, datagram, whole.as_slice())
 }

@@ -1,5 +1,4 @@
--- What becomes of a datagram from the peer (RFC 5925, section 7.5). The file's tops: `take_in` and
--- `inbound`.
+-- What becomes of a datagram from the peer. The file's tops: `take_in` and `inbound`.
 use Rattle.std.specs.Prelude.{ℕ, ◌+◌, ◌&&◌, ◌||◌, Bool, true, not, max, nat_lt, if◌then◌else◌, List}
 use Rattle.std.specs.Prelude.{Option, Some, None, is_some, Result, Ok, Err}
 use Rattle.book_base.specs.declared.address.Pair.{Pair}
@@ -25,15 +24,13 @@ pub record Opened : Type 0 where
   pub passed : Finding  -- what the check found
   pub segment : Segment
 
--- the SYN with ACK answers the own SYN that is out, the one given up, or that of the connection in
--- use (RFC 5925, section 5.2, and own)
+-- the SYN with ACK answers an own SYN: one out, one given up, or that of the connection (own)
 abbrev pub is_awaited : Kept → Segment → Bool
 is_awaited g d =
     is_the_number g.opening (answered_isn d)
     || (is_the_number g.given_up (answered_isn d) || is_the_number (own_isn g) (answered_isn d))
 
--- what is known for a segment without SYN: the numbers of the connection in use (RFC 5925, section
--- 5.2)
+-- what is known for a segment without SYN: the connection's numbers (RFC 5925, section 5.2)
 abbrev pub known_in : Option Isns → (heard : ℕ) → Known
 known_in None heard = record { own_isn = 0; peer_isn = None; expected = None }
 known_in (Some c) heard = record { own_isn = c.own; peer_isn = Some c.peer; expected = Some heard }
@@ -44,8 +41,7 @@ known_for g d =
     if has SYN d then record { own_isn = answered_isn d; peer_isn = None; expected = None }
     else known_in g.isns g.heard
 
--- the verdict on a segment from the peer; a SYN with ACK that isn't awaited has no context (RFC
--- 5925, section 7.5, and own)
+-- the verdict on a segment; a SYN with ACK must be awaited (RFC 5925, section 7.5, and own)
 unfoldable pub judged_arrival : Setting → Pair → Kept → Segment → Judgement
 judged_arrival here pair g d =
     if has SYN d && has ACK d && not (is_awaited g d) then Err NoContext
@@ -56,21 +52,18 @@ abbrev pub as_taken : Judgement → Result Finding Untaken
 as_taken (Ok p) = Ok p
 as_taken (Err why) = Err (Refused why)
 
--- what is kept once another SYN with ACK came for the own SYN of the connection in use: the peer
--- began anew, as long as nothing but SYNs passed (own)
+-- the peer answered the connection's SYN anew: that counts while nothing but SYNs passed (own)
 abbrev pub answered_anew : Kept → (own peer : ℕ) → Kept
 answered_anew g own peer =
     if are_isns g.isns own peer || g.settled then g
     else record g { isns = Some (record { own = own; peer = peer }); heard = peer + 1 }
 
--- what is kept once a SYN with ACK passed: with it the connection begins whose own SYN was out; for
--- a SYN given up it is late (RFC 9293, section 3.5, and own)
+-- a SYN with ACK passed: the connection begins whose SYN is out, or it is late, or anew (own)
 abbrev pub joined : Kept → (own peer : ℕ) → Kept
 joined g own peer =
     if is_the_number g.opening own then connection_begun g own peer
-    else (if is_the_number g.given_up own
-    then record g { late = Some (record { own = own; peer = peer }) }
-    else answered_anew g own peer)
+    else if is_the_number g.given_up own
+    then record g { late = Some (record { own = own; peer = peer }) } else answered_anew g own peer
 
 -- what is kept once a segment passed: a SYN without ACK may be a replay, and changes nothing (own)
 abbrev pub admitted : Kept → Segment → Kept
@@ -89,16 +82,14 @@ past_heard g d n =
       settled = g.settled || not (has SYN d);
     } else g
 
--- a segment that passed may be a replay: a SYN where a connection is in use or opening, a SYN with
--- ACK of another one, and what ends before what was heard (own)
+-- it may be a replay: a SYN beside a connection, a SYN with ACK of another, an old segment (own)
 abbrev pub may_be_replayed : Kept → Segment → (number : ℕ) → Bool
 may_be_replayed g d n =
     if is_opening_syn d then is_some g.isns || is_some g.opening
     else not (is_of_connection (admitted g d) d)
     || nat_lt (n + segment_length d) (admitted g d).heard
 
--- the RNextKeyID that is followed of a segment that passed: that of a RST isn't, nor that of what
--- may be a replay (RFC 5925, section 7.5; what isn't: own)
+-- the RNextKeyID that is followed: not a RST's, nor a possible replay's (RFC 5925, section 7.5)
 abbrev pub asked_id : Kept → Segment → Finding → Option ℕ
 asked_id g d p =
     if has RST d || may_be_replayed g d p.number then None else Some p.rnext_key_id
@@ -118,8 +109,7 @@ handed_on here pair g d p = record {
   segment = relaid d (coming_area (most_mss here.mtu d) d.area);
 }
 
--- what is handed to the own kernel in place of a datagram from the peer, or the first of these
--- refusals that holds (RFC 5925, section 7.5, and own)
+-- what is handed to the own kernel, or the first refusal that holds (RFC 5925, section 7.5)
 unfoldable pub take_in : Setting → Pair → Kept → Segment → Result Opened Untaken
 take_in here pair g d = do
   keyed ← demand (is_keyed here.rows pair) Unkeyed
@@ -130,8 +120,7 @@ take_in here pair g d = do
 -- what is handed to the own kernel in place of what was read (own)
 abbrev pub take_read : Setting → Pair → Kept → Reading → Result Opened Untaken
 take_read here pair g (Unread fault) = Err (Bad fault)
-take_read here pair g (Read d) =
-    if from_peer pair d then take_in here pair g d else Err Foreign
+take_read here pair g (Read d) = if from_peer pair d then take_in here pair g d else Err Foreign
 
 -- what is handed to the own kernel in place of bytes that came (own)
 abbrev pub inbound : Setting → Pair → Kept → List ℕ → Result Opened Untaken

@@ -1,5 +1,4 @@
--- What is kept of a pair of sockets whose datagrams pass through: `connection_begun` is the file's
--- top.
+-- What is kept of a pair of sockets. The file's top: `connection_begun`.
 use Rattle.std.specs.Prelude.{ℕ, ◌+◌, ◌-◌, ◌%◌, ◌==◌, Bool, true, false, not, ◌&&◌, List}
 use Rattle.std.specs.Prelude.{Option, Some, None, option_map, Result, Ok, Err}
 use Rattle.std.specs.List.{list_any}
@@ -10,8 +9,7 @@ use Rattle.book_keys.specs.Rows.{Row, matches}
 use Rattle.book_shim.specs.declared.kept.Isns.{Isns}
 use Rattle.book_shim.specs.declared.kept.Kept.{Kept}
 
--- under what a datagram is handled: the rows of the key table, the time, and the MTU of the device
--- over which the pair's datagrams come (own)
+-- the rows of the key table, the time, and the MTU of the device over which datagrams come (own)
 pub record Setting : Type 0 where
   pub rows : List Row
   pub now : ℕ
@@ -52,19 +50,14 @@ peer_isn g = option_map (λ c. c.peer) g.isns
 abbrev pub is_opening_syn : Segment → Bool
 is_opening_syn d = has SYN d && not (has ACK d)
 
--- the initial sequence number that a SYN with ACK answers: one less than it acknowledges (RFC 9293,
--- section 3.5)
+-- the initial sequence number that a SYN with ACK answers (RFC 9293, section 3.5)
 abbrev pub answered_isn : Segment → ℕ
 answered_isn d = (d.acknowledgement + ring - 1) % ring
 
 -- a connection begins with these numbers: those of both SYNs are used (RFC 9293, section 3.4)
 abbrev pub connection_begun : Kept → (own peer : ℕ) → Kept
-connection_begun g own peer = record {
-  opening = None;
-  given_up = None;
-  late = None;
+connection_begun g own peer = record fresh {
   isns = Some (record { own = own; peer = peer });
-  settled = false;
   sent = own + 1;
   heard = peer + 1;
   current = g.current;

@@ -1,17 +1,16 @@
--- What becomes of a datagram of the own kernel (RFC 5925, section 7.4). The file's tops:
--- `send_sealed` and `outbound`.
+-- What becomes of a datagram of the own kernel. The file's tops: `send_sealed` and `outbound`.
 use Rattle.std.specs.Prelude.{ℕ, ◌+◌, ◌-◌, ◌%◌, ◌==◌, nat_le, Bool, false, not, ◌&&◌, ◌||◌, max}
-use Rattle.std.specs.Prelude.{if◌then◌else◌, List, ◌∷◌, ◌++◌, length, replicate}
+use Rattle.std.specs.Prelude.{if◌then◌else◌, List, ◌++◌, length}
 use Rattle.std.specs.Prelude.{Option, Some, None, Result, Ok, Err}
 use Rattle.std.specs.List.{list_any}
 use Rattle.book_base.specs.declared.address.Pair.{Pair}
-use Rattle.book_base.specs.Algorithms.{mac_length_of}
 use Rattle.book_base.specs.Results.{◌>>=◌, or_fault}
-use Rattle.book_segments.specs.Options.{Plain, Ao, ao_kind, ao_head_length, md5_kind}
+use Rattle.book_segments.specs.Options.{Plain, Ao, ao_kind, md5_kind}
 use Rattle.book_segments.specs.Options.{plains, listed, options_of}
 use Rattle.book_segments.specs.Segments.{Segment, Reading, Bad as Unread, Read, reading, has}
 use Rattle.book_segments.specs.Segments.{SYN, ACK, RST, segment_length}
 use Rattle.book_segments.specs.Bytes.{ring}
+use Rattle.book_segments.specs.Spelling.{with_sum}
 use Rattle.book_segments.specs.Sockets.{same_socket}
 use Rattle.book_macs.specs.Contexts.{context_of}
 use Rattle.book_macs.specs.MacInput.{mac_input}
@@ -19,7 +18,7 @@ use Rattle.book_macs.specs.Keys.{traffic_key, mac}
 use Rattle.book_keys.specs.Coordination.{Sending, choose}
 use Rattle.book_endpoint.specs.States.{number_limit}
 use Rattle.book_endpoint.specs.Verdicts.{segment_number}
-use Rattle.book_endpoint.specs.Emissions.{ao_length}
+use Rattle.book_endpoint.specs.Emissions.{ao_length, written_ao, no_mac}
 use Rattle.book_shim.specs.declared.refusal.Unsent.{Unsent}
 use Rattle.book_shim.specs.declared.refusal.Unsent.TheVariants.{Bad, Foreign, Unkeyed, Signed}
 use Rattle.book_shim.specs.declared.refusal.Unsent.TheVariants.{NoContext, Range, NoKey, NoRoom}
@@ -44,15 +43,13 @@ pub record Sealed : Type 0 where
 abbrev pub signs : Plain → Bool
 signs o = (o.kind == ao_kind) || (o.kind == md5_kind)
 
--- what is kept once the own kernel sends a SYN: it is out, and no key is current yet, unless it is
--- that SYN or that of the connection in use, again (RFC 5925, section 7.4, and own)
+-- the own kernel sends a SYN: another one is out, and no key is current (RFC 5925, section 7.4)
 abbrev pub opening : Kept → ℕ → Kept
 opening g own =
     if is_the_number (own_isn g) own || is_the_number g.opening own then g
     else record g { opening = Some own; given_up = g.opening; current = None }
 
--- what is kept once the own kernel answers a SYN: with it a connection begins, unless it is that of
--- the connection in use, again. What the kernel answers had passed (RFC 9293, section 3.5, and own)
+-- the own kernel answers a SYN, which had passed: another connection begins (RFC 9293, section 3.5)
 abbrev pub accepting : Kept → (own peer : ℕ) → Kept
 accepting g own peer = if are_isns g.isns own peer then g else connection_begun g own peer
 
@@ -63,8 +60,7 @@ entered g d =
     then (if has ACK d then accepting g d.sequence (answered_isn d) else opening g d.sequence)
     else g
 
--- the RST by which the own kernel answers a SYN with ACK that answered a SYN given up (RFC 9293,
--- section 3.10.7.3)
+-- the RST that answers a late SYN with ACK, for a SYN given up (RFC 9293, section 3.10.7.3)
 abbrev pub resets : Option Isns → Segment → Bool
 resets None d = false
 resets (Some c) d = has RST d && (not (has SYN d) && (d.sequence == (c.own + 1) % ring))
@@ -78,8 +74,7 @@ as_late g (Some c) = connection_begun g c.own c.peer
 abbrev pub kept_for : Kept → Segment → Kept
 kept_for g d = if resets g.late d then as_late g g.late else g
 
--- the greatest number moves, but by a SYN without ACK: it isn't of the connection in use; nor is
--- what resets a late one, of which nothing is kept then (own)
+-- the greatest number moves, not by a SYN without ACK, nor by what resets a late connection (own)
 abbrev pub past_sent : Kept → Segment → ℕ → Kept
 past_sent g d n =
     if is_opening_syn d then g
@@ -88,62 +83,44 @@ past_sent g d n =
       settled = g.settled || not (has SYN d);
     })
 
--- the bytes of a TCP-AO option (RFC 5925, section 2.2)
-abbrev pub ao_bytes : Sending → List ℕ → List ℕ
-ao_bytes s code =
-    ao_kind ∷ (ao_head_length + length code) ∷ s.key_id ∷ s.rnext_key_id ∷ code
-
 -- the TCP-AO option after these options (RFC 5925, section 2.2)
 abbrev pub ao_last : List ℕ → Sending → List ℕ → Ao
-ao_last area s code = record {
-  key_id = s.key_id;
-  rnext_key_id = s.rnext_key_id;
-  mac = code;
-  place = length area;
-}
-
--- a MAC of the row's length before it is computed (RFC 5925, section 5.1)
-abbrev pub no_code : Sending → List ℕ
-no_code s = replicate (mac_length_of s.row.algorithm) 0
+ao_last area s code =
+    record { key_id = s.key_id; rnext_key_id = s.rnext_key_id; mac = code; place = length area }
 
 -- a datagram with these options, the TCP-AO option after them (RFC 5925, section 2.2)
 abbrev pub with_ao : Segment → List ℕ → Sending → List ℕ → Segment
-with_ao d area s code = relaid d (area ++ ao_bytes s code)
+with_ao d area s code = relaid d (area ++ written_ao s code)
 
--- what the MAC of a datagram is computed over, whose first byte has this number (RFC 5925, section
--- 5.1)
+-- what the MAC of a datagram with this number is computed over (RFC 5925, section 5.1)
 abbrev pub input_for : Segment → (area : List ℕ) → Sending → ℕ → List ℕ
 input_for d area s n =
-    mac_input n (with_ao d area s (no_code s)) (ao_last area s (no_code s)) s.row.with_options
+    mac_input n (with_ao d area s (no_mac s)) (ao_last area s (no_mac s)) s.row.with_options
 
 -- the MAC of an input under the key of the row (RFC 5925, section 7.4)
 abbrev pub code_for : Sending → (context input : List ℕ) → List ℕ
 code_for s context input =
     mac s.row.algorithm (traffic_key s.row.algorithm s.row.master context) input
 
--- under what a datagram is sealed: the row of the key, the context of its traffic key, and the
--- number of its first byte (RFC 5925, sections 5.1 to 6.2)
-pub record Seal : Type 0 where
-  pub sending : Sending
-  pub context : List ℕ
-  pub number : ℕ
+-- a checksum of 0000 is sent as ffff, the same number: there are receivers that refuse 0000 (own)
+abbrev pub as_sent : Segment → Segment
+as_sent d = with_sum d (if d.checksum == 0 then 0xffff else d.checksum)
 
 -- a datagram sealed under the key of the row, its other options being these (RFC 5925, section 7.4)
-abbrev pub sealed_with : Kept → Segment → (area : List ℕ) → Seal → Sealed
-sealed_with g d area u =
-    let input = input_for d area u.sending u.number in
+abbrev pub sealed_with : Kept → Segment → (area : List ℕ) → Sending → List ℕ → ℕ → Sealed
+sealed_with g d area s context n =
+    let input = input_for d area s n in
     record {
-      kept = record (past_sent g d u.number) { current = Some u.sending.number };
+      kept = record (past_sent g d n) { current = Some s.number };
       given = d;
-      sending = u.sending;
-      number = u.number;
-      context = u.context;
+      sending = s;
+      number = n;
+      context = context;
       input = input;
-      segment = with_ao d area u.sending (code_for u.sending u.context input);
+      segment = as_sent (with_ao d area s (code_for s context input));
     }
 
--- what is sent in place of a datagram of the own kernel, this being kept with it, or the first of
--- these refusals that holds (RFC 5925, section 7.4, and own)
+-- what is sent in place of a datagram, or the first refusal that holds (RFC 5925, section 7.4)
 unfoldable pub send_within : Setting → Pair → Kept → Segment → Result Sealed Unsent
 send_within here pair e d = do
   keyed ← demand (is_keyed here.rows pair) Unkeyed
@@ -153,8 +130,8 @@ send_within here pair e d = do
   ends ← demand (nat_le (n + segment_length d) number_limit) Range
   s ← or_fault (choose e.current here.rows pair here.now) NoKey
   area ← or_fault (fitted (40 - ao_length s) d.area) NoRoom
-  whole ← demand (nat_le (length_in_header d.ip (with_ao d area s (no_code s))) 65535) TooLong
-  Ok (sealed_with e d area (record { sending = s; context = context; number = n }))
+  whole ← demand (nat_le (length_in_header d.ip (with_ao d area s (no_mac s))) 65535) TooLong
+  Ok (sealed_with e d area s context n)
 
 -- what is sent in place of a datagram of the own kernel (RFC 5925, section 7.4)
 abbrev pub send_sealed : Setting → Pair → Kept → Segment → Result Sealed Unsent

@@ -1,8 +1,7 @@
--- A datagram with other options: which options a segment has on its way out and on its way in, and
--- its lengths and checksums made anew. `fitted`, `coming_area` and `relaid` are the file's tops.
+-- A datagram with other options. The file's tops: `fitted`, `coming_area` and `relaid`.
 use Rattle.std.specs.Prelude.{ℕ, zero, suc, ◌+◌, ◌-◌, ◌*◌, ◌%◌, ◌==◌, min, nat_lt, nat_le}
 use Rattle.std.specs.Prelude.{Bool, true, false, if◌then◌else◌, List, [], ◌∷◌, ◌++◌, length, take}
-use Rattle.std.specs.Prelude.{replicate, ◌&&◌, ◌||◌}
+use Rattle.std.specs.Prelude.{replicate, flat_map, ◌&&◌, ◌||◌}
 use Rattle.std.specs.Prelude.{slice_index, Option, Some, None}
 use Rattle.std.specs.Option.{option_or}
 use Rattle.book_segments.specs.Bytes.{put2}
@@ -21,8 +20,7 @@ sack_kind = 5
 abbrev pub spelled : Plain → List ℕ
 spelled o = if nat_lt o.kind 2 then o.kind ∷ [] else o.kind ∷ (2 + length o.body) ∷ o.body
 
--- an option of selective acknowledgements over these bytes, and none over no bytes (RFC 2018,
--- section 3)
+-- an option of selective acknowledgements, and none over no bytes (RFC 2018, section 3)
 abbrev pub sack : List ℕ → List ℕ
 sack [] = []
 sack (b ∷ bs) = sack_kind ∷ (2 + length (b ∷ bs)) ∷ b ∷ bs
@@ -35,16 +33,14 @@ multipath_kind = 30
 abbrev pub fast_open_kind : ℕ
 fast_open_kind = 34
 
--- an option is left out: the end of the list, which isn't one, and for want of room those that only
--- fill up, and multipath and Fast Open, which a peer takes for not offered (RFC 9293, section 3.2;
--- RFC 8684, section 3.7; RFC 7413, section 4.2, and own)
+-- left out are the end of the list, and for want of room NOPs, multipath and Fast Open, which a
+-- peer takes for not offered then (RFC 8684, section 3.7; RFC 7413, section 4.2, and own)
 abbrev pub is_left_out : Trim → Plain → Bool
 is_left_out t o =
     (o.kind == 0) || ((t.packed && (o.kind == 1))
     || (t.bare && ((o.kind == multipath_kind) || (o.kind == fast_open_kind))))
 
--- an option as it goes out: of selective acknowledgements the first so many blocks, of eight bytes
--- each, the newest first (RFC 2018, sections 3 and 4, and own)
+-- an option as it goes out, of selective acknowledgements the newest blocks (RFC 2018, section 4)
 abbrev pub going : Trim → Plain → List ℕ
 going t o =
     if is_left_out t o then []
@@ -54,14 +50,12 @@ going t o =
 abbrev pub longest_ao : ℕ
 longest_ao = 20
 
--- the maximum segment size that a body of two bytes tells, or the most that the own device leaves,
--- less the longest TCP-AO option: the own kernel doesn't know that its segments will carry one (RFC
--- 6691, section 2, and own)
+-- the maximum segment size that a body tells, or the most that the own device leaves, less the
+-- longest TCP-AO option, of which the own kernel doesn't know (RFC 6691, section 2, and own)
 abbrev pub lowered : (most : ℕ) → List ℕ → ℕ
 lowered most body = min (slice_index body 0 * 256 + slice_index body 1) most - longest_ao
 
--- an option, and where there is a most the maximum segment size lowered (RFC 9293, section 3.7.1,
--- and own)
+-- an option, and where there is a most the maximum segment size lowered (RFC 9293, section 3.7.1)
 abbrev pub with_mss : (most : Option ℕ) → Plain → List ℕ
 with_mss None o = spelled o
 with_mss (Some most) o =
@@ -72,25 +66,19 @@ with_mss (Some most) o =
 abbrev pub coming : (most : Option ℕ) → Plain → List ℕ
 coming most o = if (o.kind == 0) || (o.kind == ao_kind) then [] else with_mss most o
 
--- each option written so, one after another (own)
-abbrev pub written_by : (Plain → List ℕ) → List Plain → List ℕ
-written_by write [] = []
-written_by write (o ∷ os) = write o ++ written_by write os
-
 -- bytes of options filled up to whole words by NOP (RFC 9293, section 3.2)
 abbrev pub in_words : List ℕ → List ℕ
 in_words bytes = bytes ++ replicate ((4 - length bytes % 4) % 4) 1
 
 -- the options of an area, each written so, in whole words (own)
 unfoldable pub rewritten : (Plain → List ℕ) → List ℕ → List ℕ
-rewritten write area = in_words (written_by write (plains (listed (options_of area))))
+rewritten write area = in_words (flat_map write (plains (listed (options_of area))))
 
 -- the bytes, where they have room (own)
 abbrev pub if_room : (room : ℕ) → List ℕ → Option (List ℕ)
 if_room room bytes = if nat_le (length bytes) room then Some bytes else None
 
--- the options as they go out with so many blocks, where they have room: as they stand, else without
--- those that only fill up (own)
+-- the options as they go out with so many blocks, where they have room, else without NOPs (own)
 abbrev pub packed_in : (room blocks : ℕ) → (bare : Bool) → List ℕ → Option (List ℕ)
 packed_in room n bare area = option_or
     (if_room room (rewritten (going (record { blocks = n; packed = false; bare = bare })) area))
@@ -102,8 +90,7 @@ fitted_from room zero bare area = packed_in room 0 bare area
 fitted_from room (suc n) bare area =
     option_or (packed_in room (suc n) bare area) (fitted_from room n bare area)
 
--- the options as they go out beside TCP-AO, where they have room; multipath and Fast Open are left
--- out last (own)
+-- the options as they go out beside TCP-AO; multipath and Fast Open are left out last (own)
 abbrev pub fitted : (room : ℕ) → List ℕ → Option (List ℕ)
 fitted room area = option_or (fitted_from room 4 false area) (fitted_from room 4 true area)
 
@@ -116,8 +103,7 @@ abbrev pub headers_length : IpHeader → ℕ
 headers_length (Ipv4 service identification flags ttl checksum options) = 40
 headers_length (Ipv6 class_flow hops) = 60
 
--- the greatest maximum segment size that a SYN may tell where the own device has this MTU; other
--- segments tell none (RFC 6691, section 2)
+-- the greatest maximum segment size that a SYN may tell under this MTU (RFC 6691, section 2)
 abbrev pub most_mss : (mtu : ℕ) → Segment → Option ℕ
 most_mss mtu d = if has SYN d then Some (mtu - headers_length d.ip) else None
 
@@ -132,8 +118,7 @@ summed (Ipv6 class_flow hops) d = Ipv6 class_flow hops
 abbrev pub with_area : Segment → List ℕ → Segment
 with_area d area = record d { area = area }
 
--- a datagram with these options: its lengths and checksums are made anew, and all else stays (RFC
--- 791, section 3.1; RFC 9293, section 3.1)
+-- a datagram with these options: its lengths and checksums are made anew, and all else stays (own)
 unfoldable pub relaid : Segment → List ℕ → Segment
 relaid d area = finished (record (with_area d area) { ip = summed d.ip (with_area d area) })
 

@@ -1,5 +1,4 @@
--- What is saved of a pair of sockets, so that a shim that begins anew goes on with it, and when.
--- The file's tops: `resumed` and `is_to_save`.
+-- What is saved of a pair, for a shim that begins anew. The file's tops: `resumed`, `is_to_save`.
 use Rattle.std.specs.Prelude.{ℕ, ◌/◌, ◌==◌, ◌&&◌, ◌||◌, not, Bool, true}
 use Rattle.std.specs.Prelude.{Option, Some, None, is_some}
 use Rattle.book_shim.specs.declared.kept.Isns.{Isns}
@@ -8,13 +7,8 @@ use Rattle.book_shim.specs.Keeping.{fresh, are_isns, is_the_number}
 
 -- what is kept of a pair of which a connection was saved; what passed in it isn't known (own)
 abbrev pub resumed : Isns → (sent heard : ℕ) → (current : Option ℕ) → Kept
-resumed isns sent heard current = record fresh {
-  isns = Some isns;
-  settled = true;
-  sent = sent;
-  heard = heard;
-  current = current;
-}
+resumed isns sent heard current =
+    record fresh { isns = Some isns; settled = true; sent = sent; heard = heard; current = current }
 
 -- these are the same two numbers, or none (own)
 abbrev pub is_same_connection : (one other : Option Isns) → Bool
@@ -30,14 +24,10 @@ same_row (Some n) other = is_the_number other n
 abbrev pub saved_stretch : ℕ
 saved_stretch = 536870912
 
--- a connection is in use, and another row is current in it (own)
-abbrev pub has_other_key : Kept → Kept → Bool
-has_other_key g k = is_some k.isns && not (same_row g.current k.current)
-
--- what is kept must be saved before the datagram goes on: the numbers of another connection are in
--- use, another key is, or a number went past a whole stretch (own)
+-- it is saved first: for another connection or key, or where a number went past a stretch (own)
 abbrev pub is_to_save : Kept → Kept → Bool
 is_to_save g k =
-    not (is_same_connection g.isns k.isns) || (has_other_key g k
+    not (is_same_connection g.isns k.isns)
+    || ((is_some k.isns && not (same_row g.current k.current))
     || (not (g.sent / saved_stretch == k.sent / saved_stretch)
     || not (g.heard / saved_stretch == k.heard / saved_stretch)))

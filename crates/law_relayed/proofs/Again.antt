@@ -8,6 +8,7 @@ use Rattle.book_segments.specs.Spelling.{Fits, FitsIp, with_sum, finished}
 use Rattle.book_segments.proofs.Folding.{complement_at, complement_by, sums_is_right}
 use Rattle.book_segments.proofs.SumLaws.{complement_completes, words_pseudo, words_tcp, same_tcp, same_pseudo}
 use Rattle.book_shim.specs.Relaying.{relaid, with_area, summed}
+use Rattle.book_shim.specs.Leaving.{as_sent}
 use Rattle.law_shim.proofs.Opening.{header_sum, header_some}
 use Rattle.law_relayed.specs.Whole.{ip_checksum}
 
@@ -65,12 +66,12 @@ summed_twice (Ipv4 service identification flags ttl checksum options) x y z s d 
 summed_twice (Ipv6 class_flow hops) x y z s d l = refl
 
 -- what is between doesn't count
-pub relaid_twice : (d : Segment) (a b : List ℕ) → relaid (relaid d a) b ≡ relaid d b
+pub sent_twice : (d : Segment) (a b : List ℕ) → relaid (as_sent (relaid d a)) b ≡ relaid d b
 unfolding relaid
-relaid_twice d a b =
+sent_twice d a b =
     let y : Segment = record (with_area d a) { ip = summed d.ip (with_area d a) } in
-    let e : Segment = finished y in
-    let c = checksum_of y in
+    let e : Segment = as_sent (finished y) in
+    let c = e.checksum in
     let x : Segment = record (with_area d b) { ip = summed d.ip (with_area d b) } in
     ap (λ (i : IpHeader). finished (record (with_area e b) { ip = i })) (summed_twice d.ip (with_area e b) (with_area d a) (with_area d b) refl refl refl)
     ∙ ap (with_sum x) (checksum_alike x c)

@@ -5,8 +5,9 @@ use Rattle.std.proofs.lemmas.List.{append-nil}
 use Rattle.std.proofs.lemmas.Bool.Decides.{nat_tests}
 use Rattle.book_segments.specs.Bytes.{put2}
 use Rattle.book_segments.specs.Options.{Options, Plain, Listed, Absent, plains, listed, options_of, AreListed, of_kind, found, find_ao}
-use Rattle.book_shim.specs.Relaying.{spelled, lowered, with_mss, coming, written_by, rewritten, coming_area}
+use Rattle.book_shim.specs.Relaying.{spelled, lowered, with_mss, coming, rewritten, coming_area}
 use Rattle.law_shim.proofs.Areas.{IsPlain, IsOpenPlain, IsNot, nop, placed, nops_written, written_append, written_listed, all_append, none_of, listed_plain}
+use Rattle.std.specs.Prelude.{flat_map}
 
 -- an option with its maximum segment size lowered
 abbrev pub told_anew : Option ℕ → Plain → Plain
@@ -23,7 +24,7 @@ comings most (o ∷ os) = came most o ++ comings most os
 
 -- the options that are handed on, those that fill up among them
 abbrev pub handed : Option ℕ → List Plain → List Plain
-handed most os = comings most os ++ replicate ((4 - length (written_by (coming most) os) % 4) % 4) nop
+handed most os = comings most os ++ replicate ((4 - length (flat_map (coming most) os) % 4) % 4) nop
 
 put2_long : (n : ℕ) → length (put2 n []) ≡ 2
 unfolding put2
@@ -37,15 +38,15 @@ told_written : (most : Option ℕ) (o : Plain) → spelled (told_anew most o) �
 told_written None o = refl
 told_written (Some most) o = told_written_by ((o.kind == 2) && (length o.body == 2)) (lowered most o.body) o
 
-came_written : (b : Bool) (o : Plain) (bytes : List ℕ) → spelled o ≡ bytes → written_by spelled (if b then [] else o ∷ []) ≡ (if b then [] else bytes)
+came_written : (b : Bool) (o : Plain) (bytes : List ℕ) → spelled o ≡ bytes → flat_map spelled (if b then [] else o ∷ []) ≡ (if b then [] else bytes)
 came_written true o bytes e = refl
 came_written false o bytes e = append-nil (spelled o) ∙ e
 
-comings_written : (most : Option ℕ) (os : List Plain) → written_by spelled (comings most os) ≡ written_by (coming most) os
+comings_written : (most : Option ℕ) (os : List Plain) → flat_map spelled (comings most os) ≡ flat_map (coming most) os
 comings_written most [] = refl
 comings_written most (o ∷ os) =
     written_append spelled (came most o) (comings most os)
-    ∙ ap (λ (l : List ℕ). l ++ written_by spelled (comings most os)) (came_written ((o.kind == 0) || (o.kind == 29)) (told_anew most o) (with_mss most o) (told_written most o))
+    ∙ ap (λ (l : List ℕ). l ++ flat_map spelled (comings most os)) (came_written ((o.kind == 0) || (o.kind == 29)) (told_anew most o) (with_mss most o) (told_written most o))
     ∙ ap (λ (l : List ℕ). coming most o ++ l) (comings_written most os)
 
 -- ---- each has its bytes, and none is TCP-AO
@@ -101,14 +102,14 @@ parts (o ∷ os) h = let rest = parts os h.1 in ((h.0.0, rest.0), (h.0.1, rest.1
 
 -- ---- what is read again
 
-handed_written : (most : Option ℕ) (area : List ℕ) → coming_area most area ≡ written_by spelled (handed most (plains (listed (options_of area))))
+handed_written : (most : Option ℕ) (area : List ℕ) → coming_area most area ≡ flat_map spelled (handed most (plains (listed (options_of area))))
 unfolding rewritten
 handed_written most area =
     let os = plains (listed (options_of area)) in
-    let n = (4 - length (written_by (coming most) os) % 4) % 4 in
+    let n = (4 - length (flat_map (coming most) os) % 4) % 4 in
     sym (
-    written_append spelled (comings most os) (replicate n nop) ∙ ap (λ (l : List ℕ). l ++ written_by spelled (replicate n nop)) (comings_written most os)
-    ∙ ap (λ (l : List ℕ). written_by (coming most) os ++ l) (nops_written n)
+    written_append spelled (comings most os) (replicate n nop) ∙ ap (λ (l : List ℕ). l ++ flat_map spelled (replicate n nop)) (comings_written most os)
+    ∙ ap (λ (l : List ℕ). flat_map (coming most) os ++ l) (nops_written n)
     )
 
 pub handed_listed : (most : Option ℕ) (area : List ℕ) → AreListed (options_of area) → options_of (coming_area most area) ≡ Listed (placed 0 (handed most (plains (listed (options_of area)))))

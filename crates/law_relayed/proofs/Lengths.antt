@@ -8,13 +8,13 @@ use Rattle.book_segments.specs.Segments.{IpHeader, Ipv4, Ipv6, Segment, header, 
 use Rattle.book_segments.specs.Spelling.{Fits}
 use Rattle.book_macs.specs.Keys.{traffic_key}
 use Rattle.book_macs.proofs.LengthLaws.{length-mac, length-traffic_key, twelve_or_sixteen}
-use Rattle.book_endpoint.specs.Emissions.{ao_length}
+use Rattle.book_endpoint.specs.Emissions.{ao_length, written_ao}
 use Rattle.book_shim.specs.declared.kept.Kept.{Kept}
 use Rattle.book_shim.specs.Keeping.{Setting}
-use Rattle.book_shim.specs.Leaving.{Sealed, send_sealed, ao_bytes, code_for, input_for}
+use Rattle.book_shim.specs.Leaving.{Sealed, send_sealed, as_sent, code_for, input_for}
 use Rattle.book_shim.specs.Relaying.{relaid, with_area, summed, going}
 use Rattle.law_shim.proofs.LongLaws.{rewritten_long, going_shortens}
-use Rattle.law_shim.proofs.Sealing.{sends, is_fitted, relaid_keeps}
+use Rattle.law_shim.proofs.Sealing.{sends, is_fitted, sent_keeps}
 
 tcp_long : (d : Segment) (c : ℕ) → length (tcp_bytes d c) ≡ 20 + length d.area + length d.payload
 unfolding tcp_bytes header put2 put4
@@ -41,10 +41,10 @@ summed_long (Ipv4 service identification flags ttl checksum options) x y d s t =
 summed_long (Ipv6 class_flow hops) x y d s t = rw (s, t) refl
 
 -- it has as many more bytes as its options have
-pub relaid_long : (d : Segment) (area : List ℕ) → length (spell (relaid d area)) + length d.area ≡ length (spell d) + length area
-relaid_long d area =
-    let k = relaid_keeps d area in
-    let x = relaid d area in
+pub sent_long : (d : Segment) (area : List ℕ) → length (spell (as_sent (relaid d area))) + length d.area ≡ length (spell d) + length area
+sent_long d area =
+    let k = sent_keeps d area in
+    let x = as_sent (relaid d area) in
     let ip : ip_long x.ip x ≡ ip_long d.ip d = ap (λ (i : IpHeader). ip_long i x) k.ip_is ∙ summed_long d.ip x (with_area d area) d k.source k.destination in
     let areas = ap (λ (l : List ℕ). length l) k.area_is in
     let payloads = ap (λ (l : List ℕ). length l) k.payload in
@@ -63,8 +63,8 @@ sealed_long here pair g d m f h =
     length-mac s.row.algorithm (traffic_key s.row.algorithm s.row.master m.context) input (length-traffic_key s.row.algorithm s.row.master m.context) in
     let fit = is_fitted (40 - ao_length s) d.area z.area z.fits in
     let short : length z.area ≤ length d.area = subst (λ (l : List ℕ). length l ≤ length d.area) (sym fit.is) (rewritten_long (going fit.trim) d.area (going_shortens fit.trim) f.listed f.area.words) in
-    let a = z.area ++ ao_bytes s code in
-    let long = length-append z.area (ao_bytes s code) in
-    let more = relaid_long d a in
-    let is : length (spell m.segment) ≡ length (spell (relaid d a)) = ap (λ (x : Sealed). length (spell x.segment)) z.sent_is in
+    let a = z.area ++ written_ao s code in
+    let long = length-append z.area (written_ao s code) in
+    let more = sent_long d a in
+    let is : length (spell m.segment) ≡ length (spell (as_sent (relaid d a))) = ap (λ (x : Sealed). length (spell x.segment)) z.sent_is in
     elim (twelve_or_sixteen s.row.algorithm) [ inl e ↦ omega arith | inr e ↦ omega arith ]

@@ -11,16 +11,17 @@ use Rattle.book_endpoint.specs.Arrivals.{from_peer}
 use Rattle.book_shim.specs.declared.kept.Kept.{Kept}
 use Rattle.book_shim.specs.declared.refusal.Unsent.TheVariants.{Foreign}
 use Rattle.book_shim.specs.Keeping.{Setting}
-use Rattle.book_shim.specs.Leaving.{Sealed, send_sealed, send_read, outbound, ao_bytes, code_for, input_for}
+use Rattle.book_shim.specs.Leaving.{Sealed, send_sealed, send_read, outbound, as_sent, code_for, input_for}
 use Rattle.book_shim.specs.Arriving.{Opened, inbound}
 use Rattle.book_shim.specs.Relaying.{relaid, coming_area, most_mss}
 use Rattle.law_shim.specs.Worlds.{Side, other, pair_at}
 use Rattle.law_shim.specs.Origins.{IsMet, ComesOut}
 use Rattle.law_shim.proofs.Returning.{comes_out}
 use Rattle.law_shim.proofs.Running.{was_sent, was_taken, local_across, remote_across}
-use Rattle.law_shim.proofs.Sealing.{relaid_keeps}
+use Rattle.law_shim.proofs.Sealing.{relaid_keeps, sent_keeps}
 use Rattle.law_relayed.specs.Whole.{StaysWhole, ComesBack}
-use Rattle.law_relayed.proofs.Again.{relaid_own, relaid_twice}
+use Rattle.law_relayed.proofs.Again.{relaid_own, sent_twice}
+use Rattle.book_endpoint.specs.Emissions.{written_ao}
 
 read_same : (d e : Segment) → Read d ≡ Read e → d ≡ e
 read_same d e h = cc
@@ -64,9 +65,9 @@ comes_back pair at sending here there g bytes arrived m b e stays met came =
     let sealed_so : send_sealed sending Q there d ≡ Ok m = sent_by _ sending Q there d m (ap (send_read sending Q there) (sym w.read) ∙ e) in
     let out : ComesOut here P g m = comes_out sending here Q P there g d m f sealed_so met in
     let s = m.segment in
-    let a = z.area ++ ao_bytes m.sending (code_for m.sending m.context (input_for d z.area m.sending m.number)) in
-    let s_is : s ≡ relaid d a = ap (λ (x : Sealed). x.segment) z.sent_is in
-    let k = relaid_keeps d a in
+    let a = z.area ++ written_ao m.sending (code_for m.sending m.context (input_for d z.area m.sending m.number)) in
+    let s_is : s ≡ as_sent (relaid d a) = ap (λ (x : Sealed). x.segment) z.sent_is in
+    let k = sent_keeps d a in
     let source : s.source ≡ P.remote = ap (λ (x : Segment). x.source) s_is ∙ k.source ∙ w.source ∙ local_across pair at in
     let destination : s.destination ≡ P.local = ap (λ (x : Segment). x.destination) s_is ∙ k.destination ∙ w.destination ∙ remote_across pair at in
     let t = out.taken in
@@ -81,7 +82,7 @@ comes_back pair at sending here there g bytes arrived m b e stays met came =
     let P_ : Segment → Type 0 = λ x. StaysWhole x m.sending in
     let own = subst P_ given stays in
     let same : t.segment ≡ d =
-    t_is ∙ ap (λ (x : Segment). relaid x area) (read ∙ s_is) ∙ ap (relaid (relaid d a)) area_is ∙ relaid_twice d a d.area ∙ relaid_own d f own.right own.below own.ip_below in
+    t_is ∙ ap (λ (x : Segment). relaid x area) (read ∙ s_is) ∙ ap (relaid (as_sent (relaid d a))) area_is ∙ sent_twice d a d.area ∙ relaid_own d f own.right own.below own.ip_below in
     let whole : bytes ≡ spell t.segment ++ front.0 = front.2 ∙ ap (λ (x : Segment). spell x ++ front.0) (sym same) in
     record {
       taken = t;

@@ -7,9 +7,11 @@ use Rattle.book_segments.specs.Areas.{spell_option, spell_options, Open, ending,
 use Rattle.book_segments.specs.Options.{Opt, Plain, Options, Listed, least, plains, listed, options_of, AreListed, of_kind, One, ao_of, found, find_ao}
 use Rattle.book_segments.proofs.AreaLaws.{area_is, area_of}
 use Rattle.book_keys.specs.Coordination.{Sending}
-use Rattle.book_shim.specs.Relaying.{spelled, sack, going, is_left_out, written_by}
+use Rattle.book_shim.specs.Relaying.{spelled, sack, going, is_left_out}
 use Rattle.book_shim.specs.declared.trim.Trim.{Trim}
-use Rattle.book_shim.specs.Leaving.{signs, ao_bytes, ao_last}
+use Rattle.book_shim.specs.Leaving.{signs, ao_last}
+use Rattle.book_endpoint.specs.Emissions.{written_ao}
+use Rattle.std.specs.Prelude.{flat_map}
 
 -- ---- options that are written
 
@@ -32,26 +34,26 @@ pub open_placed : (p : ℕ) (os : List Plain) → AllByRecursion IsOpenPlain os 
 open_placed p [] h = tt
 open_placed p (o ∷ os) h = (record { kind = h.0.kind; short = h.0.short; long = h.0.long }, refl, open_placed (p + length (spelled o)) os h.1)
 
-pub spell_placed : (p : ℕ) (os : List Plain) → spell_options (placed p os) ≡ written_by spelled os
+pub spell_placed : (p : ℕ) (os : List Plain) → spell_options (placed p os) ≡ flat_map spelled os
 spell_placed p [] = refl
 spell_placed p (o ∷ os) = ap (λ (l : List ℕ). spelled o ++ l) (spell_placed (p + length (spelled o)) os)
 
-pub written_listed : (os : List Plain) → AllByRecursion IsOpenPlain os → options_of (written_by spelled os) ≡ Listed (placed 0 os)
-written_listed os h = area_is (placed 0 os) [] (written_by spelled os) (inl ((open_placed 0 os h, refl, sym (spell_placed 0 os))))
+pub written_listed : (os : List Plain) → AllByRecursion IsOpenPlain os → options_of (flat_map spelled os) ≡ Listed (placed 0 os)
+written_listed os h = area_is (placed 0 os) [] (flat_map spelled os) (inl ((open_placed 0 os h, refl, sym (spell_placed 0 os))))
 
 pub plains_placed : (p : ℕ) (os : List Plain) → plains (placed p os) ≡ os
 plains_placed p [] = refl
 plains_placed p (o ∷ os) = ap (λ (l : List Plain). o ∷ l) (plains_placed (p + length (spelled o)) os)
 
-pub written_append : (w : Plain → List ℕ) (xs ys : List Plain) → written_by w (xs ++ ys) ≡ written_by w xs ++ written_by w ys
+pub written_append : (w : Plain → List ℕ) (xs ys : List Plain) → flat_map w (xs ++ ys) ≡ flat_map w xs ++ flat_map w ys
 written_append w [] ys = refl
-written_append w (x ∷ xs) ys = ap (λ (l : List ℕ). w x ++ l) (written_append w xs ys) ∙ sym (append_assoc (w x) (written_by w xs) (written_by w ys))
+written_append w (x ∷ xs) ys = ap (λ (l : List ℕ). w x ++ l) (written_append w xs ys) ∙ sym (append_assoc (w x) (flat_map w xs) (flat_map w ys))
 
-pub placed_append : (p : ℕ) (xs ys : List Plain) → placed p (xs ++ ys) ≡ placed p xs ++ placed (p + length (written_by spelled xs)) ys
+pub placed_append : (p : ℕ) (xs ys : List Plain) → placed p (xs ++ ys) ≡ placed p xs ++ placed (p + length (flat_map spelled xs)) ys
 placed_append p [] ys = let e : p ≡ p + 0 = omega arith in ap (λ (q : ℕ). placed q ys) e
 placed_append p (x ∷ xs) ys =
-    let a = length-append (spelled x) (written_by spelled xs) in
-    let e : p + length (spelled x) + length (written_by spelled xs) ≡ p + length (spelled x ++ written_by spelled xs) = omega arith in
+    let a = length-append (spelled x) (flat_map spelled xs) in
+    let e : p + length (spelled x) + length (flat_map spelled xs) ≡ p + length (spelled x ++ flat_map spelled xs) = omega arith in
     let o : Opt = record { kind = x.kind; body = x.body; place = p } in
     ap (λ (l : List Opt). o ∷ l) (placed_append (p + length (spelled x)) xs ys ∙ ap (λ (q : ℕ). placed (p + length (spelled x)) xs ++ placed q ys) e)
 
@@ -95,20 +97,20 @@ abbrev pub goings : Trim → List Plain → List Plain
 goings k [] = []
 goings k (o ∷ os) = gone k o ++ goings k os
 
-sack_is : (body : List ℕ) → written_by spelled (of_sack body) ≡ sack body
+sack_is : (body : List ℕ) → flat_map spelled (of_sack body) ≡ sack body
 sack_is [] = refl
 sack_is (b ∷ bs) = append-nil (5 ∷ (2 + length (b ∷ bs)) ∷ b ∷ bs)
 
 gone_by : (zero_kind five : Bool) (o : Plain) (body : List ℕ)
-    → written_by spelled (if zero_kind then [] else (if five then of_sack body else o ∷ [])) ≡ (if zero_kind then [] else (if five then sack body else spelled o))
+    → flat_map spelled (if zero_kind then [] else (if five then of_sack body else o ∷ [])) ≡ (if zero_kind then [] else (if five then sack body else spelled o))
 gone_by true five o body = refl
 gone_by false true o body = sack_is body
 gone_by false false o body = append-nil (spelled o)
 
-pub goings_written : (k : Trim) (os : List Plain) → written_by spelled (goings k os) ≡ written_by (going k) os
+pub goings_written : (k : Trim) (os : List Plain) → flat_map spelled (goings k os) ≡ flat_map (going k) os
 goings_written k [] = refl
 goings_written k (o ∷ os) =
-    written_append spelled (gone k o) (goings k os) ∙ ap (λ (l : List ℕ). l ++ written_by spelled (goings k os)) (gone_by (is_left_out k o) (o.kind == 5) o (take (8 * k.blocks) o.body))
+    written_append spelled (gone k o) (goings k os) ∙ ap (λ (l : List ℕ). l ++ flat_map spelled (goings k os)) (gone_by (is_left_out k o) (o.kind == 5) o (take (8 * k.blocks) o.body))
     ∙ ap (λ (l : List ℕ). going k o ++ l) (goings_written k os)
 
 -- what holds of the option and of each of selective acknowledgements holds of what is left
@@ -178,7 +180,7 @@ unsigned (o ∷ os) e =
 abbrev pub nop : Plain
 nop = record { kind = 1; body = [] }
 
-pub nops_written : (n : ℕ) → written_by spelled (replicate n nop) ≡ replicate n 1
+pub nops_written : (n : ℕ) → flat_map spelled (replicate n nop) ≡ replicate n 1
 nops_written zero = refl
 nops_written (suc n) = ap (λ (l : List ℕ). 1 ∷ l) (nops_written n)
 
@@ -193,21 +195,21 @@ ao_plain s code = record { kind = 29; body = s.key_id ∷ s.rnext_key_id ∷ cod
 abbrev pub front : Trim → ℕ → List Plain → List Plain
 front k n os = goings k os ++ replicate n nop
 
-pub front_written : (k : Trim) (n : ℕ) (os : List Plain) → written_by spelled (front k n os) ≡ written_by (going k) os ++ replicate n 1
+pub front_written : (k : Trim) (n : ℕ) (os : List Plain) → flat_map spelled (front k n os) ≡ flat_map (going k) os ++ replicate n 1
 front_written k n os =
-    written_append spelled (goings k os) (replicate n nop) ∙ ap (λ (l : List ℕ). l ++ written_by spelled (replicate n nop)) (goings_written k os)
-    ∙ ap (λ (l : List ℕ). written_by (going k) os ++ l) (nops_written n)
+    written_append spelled (goings k os) (replicate n nop) ∙ ap (λ (l : List ℕ). l ++ flat_map spelled (replicate n nop)) (goings_written k os)
+    ∙ ap (λ (l : List ℕ). flat_map (going k) os ++ l) (nops_written n)
 
-ao_written : (s : Sending) (code : List ℕ) → written_by spelled (ao_plain s code ∷ []) ≡ ao_bytes s code
+ao_written : (s : Sending) (code : List ℕ) → flat_map spelled (ao_plain s code ∷ []) ≡ written_ao s code
 ao_written s code =
     let e : 2 + length (s.key_id ∷ s.rnext_key_id ∷ code) ≡ 4 + length code = omega arith in
     append-nil (spelled (ao_plain s code)) ∙ ap (λ (n : ℕ). 29 ∷ n ∷ s.key_id ∷ s.rnext_key_id ∷ code) e
 
 pub whole_written : (k : Trim) (n : ℕ) (os : List Plain) (s : Sending) (code : List ℕ)
-    → written_by spelled (front k n os ++ ao_plain s code ∷ []) ≡ (written_by (going k) os ++ replicate n 1) ++ ao_bytes s code
+    → flat_map spelled (front k n os ++ ao_plain s code ∷ []) ≡ (flat_map (going k) os ++ replicate n 1) ++ written_ao s code
 whole_written k n os s code =
-    written_append spelled (front k n os) (ao_plain s code ∷ []) ∙ ap (λ (l : List ℕ). l ++ written_by spelled (ao_plain s code ∷ [])) (front_written k n os)
-    ∙ ap (λ (l : List ℕ). (written_by (going k) os ++ replicate n 1) ++ l) (ao_written s code)
+    written_append spelled (front k n os) (ao_plain s code ∷ []) ∙ ap (λ (l : List ℕ). l ++ flat_map spelled (ao_plain s code ∷ [])) (front_written k n os)
+    ∙ ap (λ (l : List ℕ). (flat_map (going k) os ++ replicate n 1) ++ l) (ao_written s code)
 
 pub whole_open : (k : Trim) (n : ℕ) (os : List Plain) (s : Sending) (code : List ℕ) → AllByRecursion IsPlain os → AllByRecursion IsOpenPlain (front k n os ++ ao_plain s code ∷ [])
 whole_open k n os s code h =
@@ -224,20 +226,20 @@ front_not kind k n os five one h = all_append (IsNot kind) (goings k os) (replic
 
 -- the TCP-AO option that stands last is found
 pub ao_found : (k : Trim) (n : ℕ) (os : List Plain) (s : Sending) (code : List ℕ) → AllByRecursion IsPlain os → list_any signs os ≡ false
-    → find_ao ((written_by (going k) os ++ replicate n 1) ++ ao_bytes s code) ≡ One (ao_last (written_by (going k) os ++ replicate n 1) s code)
+    → find_ao ((flat_map (going k) os ++ replicate n 1) ++ written_ao s code) ≡ One (ao_last (flat_map (going k) os ++ replicate n 1) s code)
 unfolding find_ao
 ao_found k n os s code h none =
-    let area = written_by (going k) os ++ replicate n 1 in
+    let area = flat_map (going k) os ++ replicate n 1 in
     let f = front k n os in
     let qs = f ++ ao_plain s code ∷ [] in
     let u = unsigned os none in
-    let options : options_of (area ++ ao_bytes s code) ≡ Listed (placed 0 qs) = ap options_of (sym (whole_written k n os s code)) ∙ written_listed qs (whole_open k n os s code h) in
+    let options : options_of (area ++ written_ao s code) ≡ Listed (placed 0 qs) = ap options_of (sym (whole_written k n os s code)) ∙ written_listed qs (whole_open k n os s code h) in
     let split = placed_append 0 f (ao_plain s code ∷ []) in
-    let last = placed (0 + length (written_by spelled f)) (ao_plain s code ∷ []) in
+    let last = placed (0 + length (flat_map spelled f)) (ao_plain s code ∷ []) in
     let ours : of_kind 29 (placed 0 qs) ≡ last = ap (of_kind 29) split ∙ kind_append 29 (placed 0 f) last ∙ ap (λ (l : List Opt). l ++ of_kind 29 last) (none_of 29 0 f (front_not 29 k n os refl refl u.0)) in
     let md5 : of_kind 19 (placed 0 qs) ≡ [] = ap (of_kind 19) split ∙ kind_append 19 (placed 0 f) last ∙ ap (λ (l : List Opt). l ++ of_kind 19 last) (none_of 19 0 f (front_not 19 k n os refl refl u.1)) in
-    let long : length (written_by spelled f) ≡ length area = ap (λ (l : List ℕ). length l) (front_written k n os) in
-    let place : 0 + length (written_by spelled f) ≡ length area = omega arith in
+    let long : length (flat_map spelled f) ≡ length area = ap (λ (l : List ℕ). length l) (front_written k n os) in
+    let place : 0 + length (flat_map spelled f) ≡ length area = omega arith in
     ap (λ (o : Options). found (of_kind 29 (listed o)) (of_kind 19 (listed o))) options
     ∙ ap (λ (l : List Opt). found l (of_kind 19 (placed 0 qs))) ours ∙ ap (λ (l : List Opt). found last l) md5
     ∙ ap (λ (p : ℕ). One (ao_of (record { kind = 29; body = s.key_id ∷ s.rnext_key_id ∷ code; place = p }))) place

@@ -7,8 +7,9 @@ use Rattle.book_segments.specs.Options.{Opt, Options, Plain, plains, listed, Lis
 use Rattle.book_segments.proofs.AreaLaws.{area_of, area_is}
 use Rattle.book_segments.proofs.Blanked.{take_exact, drop_exact}
 use Rattle.book_macs.specs.MacInput.{covered}
-use Rattle.book_shim.specs.Relaying.{coming, written_by, in_words, rewritten, coming_area}
+use Rattle.book_shim.specs.Relaying.{coming, in_words, rewritten, coming_area}
 use Rattle.law_shim.proofs.Areas.{written_append, kind_append}
+use Rattle.std.specs.Prelude.{flat_map}
 
 one_is : (a b : Ao) → One a ≡ One b → a ≡ b
 one_is a b e = cc
@@ -178,15 +179,15 @@ comes_none : (most : Option ℕ) (o : Plain) → o.kind ≡ 29 → coming most o
 comes_none most o k = rw k refl
 
 written_split : (most : Option ℕ) (xs ys : List Opt) (o : Opt) → o.kind ≡ 29
-    → written_by (coming most) (plains (xs ++ o ∷ ys)) ≡ written_by (coming most) (plains xs) ++ written_by (coming most) (plains ys)
+    → flat_map (coming most) (plains (xs ++ o ∷ ys)) ≡ flat_map (coming most) (plains xs) ++ flat_map (coming most) (plains ys)
 written_split most xs ys o k =
     let p : Plain = record { kind = o.kind; body = o.body } in
-    ap (written_by (coming most)) (plains_append xs (o ∷ ys)) ∙ written_append (coming most) (plains xs) (p ∷ plains ys)
-    ∙ ap (λ (l : List ℕ). written_by (coming most) (plains xs) ++ (l ++ written_by (coming most) (plains ys))) (comes_none most p k)
+    ap (flat_map (coming most)) (plains_append xs (o ∷ ys)) ∙ written_append (coming most) (plains xs) (p ∷ plains ys)
+    ∙ ap (λ (l : List ℕ). flat_map (coming most) (plains xs) ++ (l ++ flat_map (coming most) (plains ys))) (comes_none most p k)
 
-rewritten_listed : (most : Option ℕ) (area : List ℕ) (list : List Opt) → options_of area ≡ Listed list → coming_area most area ≡ in_words (written_by (coming most) (plains list))
+rewritten_listed : (most : Option ℕ) (area : List ℕ) (list : List Opt) → options_of area ≡ Listed list → coming_area most area ≡ in_words (flat_map (coming most) (plains list))
 unfolding rewritten
-rewritten_listed most area list e = ap (λ (o : Options). in_words (written_by (coming most) (plains (listed o)))) e
+rewritten_listed most area list e = ap (λ (o : Options). in_words (flat_map (coming most) (plains (listed o)))) e
 
 same_by : (most : Option ℕ) (list : List Opt) (area : List ℕ) (o : Opt) (ao : Ao) → Area list [] area → of_kind 29 list ≡ o ∷ [] → ao_of o ≡ ao → Open 0 list → area ≡ spell_options list
     → coming_area most (covered true area ao) ≡ coming_area most area
@@ -200,7 +201,7 @@ same_by most list area o ao a e is h bytes =
     let one = area_is new [] (covered true area ao) (inl ((open_new, refl, c))) in
     let two_is = area_is list [] area a in
     rewritten_listed most (covered true area ao) new one
-    ∙ ap in_words (written_split most i.before i.after (zeroed o) refl ∙ sym (ap (λ (l : List Opt). written_by (coming most) (plains l)) i.list_is ∙ written_split most i.before i.after o i.kind))
+    ∙ ap in_words (written_split most i.before i.after (zeroed o) refl ∙ sym (ap (λ (l : List Opt). flat_map (coming most) (plains l)) i.list_is ∙ written_split most i.before i.after o i.kind))
     ∙ sym (rewritten_listed most area list two_is)
 
 same_ended : (most : Option ℕ) (before : List Opt) (tail area : List ℕ) (o : Opt) (ao : Ao) (last : Opt) → last ≡ ending (0 + length (spell_options before)) → Area (before ++ last ∷ []) tail area
@@ -216,14 +217,14 @@ same_ended most before tail area o ao last last_is a e is h bytes =
     let one = area_is (new ++ end ∷ []) tail (covered true area ao) (inr ((new, open_new, refl, c))) in
     let two_is = area_is (before ++ last ∷ []) tail area a in
     let p : Plain = record { kind = 0; body = [] } in
-    let front : written_by (coming most) (plains (new ++ end ∷ [])) ≡ written_by (coming most) (plains new) ++ [] =
-    ap (written_by (coming most)) (plains_append new (end ∷ [])) ∙ written_append (coming most) (plains new) (plains (end ∷ [])) in
-    let back : written_by (coming most) (plains (before ++ last ∷ [])) ≡ written_by (coming most) (plains before) ++ [] =
-    ap (λ (x : Opt). written_by (coming most) (plains (before ++ x ∷ []))) last_is
-    ∙ ap (written_by (coming most)) (plains_append before (ending (0 + length (spell_options before)) ∷ []))
+    let front : flat_map (coming most) (plains (new ++ end ∷ [])) ≡ flat_map (coming most) (plains new) ++ [] =
+    ap (flat_map (coming most)) (plains_append new (end ∷ [])) ∙ written_append (coming most) (plains new) (plains (end ∷ [])) in
+    let back : flat_map (coming most) (plains (before ++ last ∷ [])) ≡ flat_map (coming most) (plains before) ++ [] =
+    ap (λ (x : Opt). flat_map (coming most) (plains (before ++ x ∷ []))) last_is
+    ∙ ap (flat_map (coming most)) (plains_append before (ending (0 + length (spell_options before)) ∷ []))
     ∙ written_append (coming most) (plains before) (plains (ending (0 + length (spell_options before)) ∷ [])) in
-    let same : written_by (coming most) (plains new) ≡ written_by (coming most) (plains before) =
-    written_split most i.before i.after (zeroed o) refl ∙ sym (ap (λ (l : List Opt). written_by (coming most) (plains l)) i.list_is ∙ written_split most i.before i.after o i.kind) in
+    let same : flat_map (coming most) (plains new) ≡ flat_map (coming most) (plains before) =
+    written_split most i.before i.after (zeroed o) refl ∙ sym (ap (λ (l : List Opt). flat_map (coming most) (plains l)) i.list_is ∙ written_split most i.before i.after o i.kind) in
     rewritten_listed most (covered true area ao) (new ++ end ∷ []) one
     ∙ ap in_words (front ∙ ap (λ (l : List ℕ). l ++ []) same ∙ sym back)
     ∙ sym (rewritten_listed most area (before ++ last ∷ []) two_is)

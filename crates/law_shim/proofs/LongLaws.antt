@@ -6,18 +6,19 @@ use Rattle.book_segments.specs.Bytes.{put2}
 use Rattle.book_segments.specs.Areas.{spell_option, spell_options, ending, Area}
 use Rattle.book_segments.specs.Options.{Opt, Plain, plains, listed, options_of, AreListed}
 use Rattle.book_segments.proofs.AreaLaws.{area_of}
-use Rattle.book_shim.specs.Relaying.{spelled, sack, going, is_left_out, coming, with_mss, lowered, written_by, in_words, rewritten}
+use Rattle.book_shim.specs.Relaying.{spelled, sack, going, is_left_out, coming, with_mss, lowered, in_words, rewritten}
 use Rattle.book_shim.specs.declared.trim.Trim.{Trim}
+use Rattle.std.specs.Prelude.{flat_map}
 
 -- each option is written in no more bytes
 abbrev pub Shortens : (Plain → List ℕ) → Type 0
 Shortens w = (o : Plain) → length (w o) ≤ length (spelled o)
 
-written_long : (w : Plain → List ℕ) (os : List Opt) → Shortens w → length (written_by w (plains os)) ≤ length (spell_options os)
+written_long : (w : Plain → List ℕ) (os : List Opt) → Shortens w → length (flat_map w (plains os)) ≤ length (spell_options os)
 written_long w [] s = omega arith
 written_long w (o ∷ os) s =
     let p : Plain = record { kind = o.kind; body = o.body } in
-    omega (arith, s p, written_long w os s, length-append (w p) (written_by w (plains os)), length-append (spell_option o) (spell_options os))
+    omega (arith, s p, written_long w os s, length-append (w p) (flat_map w (plains os)), length-append (spell_option o) (spell_options os))
 
 spell_last : (os : List Opt) (p : ℕ) → length (spell_options (os ++ ending p ∷ [])) ≡ length (spell_options os) + 1
 spell_last [] p = refl
@@ -43,7 +44,7 @@ rewritten_long w area s l e =
     let a = area_of area l in
     let n = written_long w (listed (options_of area)) s in
     let m = area_long (listed (options_of area)) a.0 area a.1 in
-    words_long (written_by w (plains (listed (options_of area)))) (length area) (omega arith) e
+    words_long (flat_map w (plains (listed (options_of area)))) (length area) (omega arith) e
 
 -- ---- the options as they go out, and as they come in
 

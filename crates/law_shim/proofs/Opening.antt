@@ -28,8 +28,9 @@ use Rattle.book_endpoint.specs.Verdicts.{Finding, Judgement, Known, judge, found
 use Rattle.book_endpoint.proofs.JudgeSteps.{judge_mac, judge_number, judge_context, judge_row, judge_ao, judge_by_steps}
 use Rattle.book_shim.specs.Keeping.{is_keyed}
 use Rattle.book_shim.specs.Relaying.{relaid, with_area, summed, length_in_header}
-use Rattle.book_shim.specs.Leaving.{ao_bytes, ao_last}
+use Rattle.book_shim.specs.Leaving.{ao_last}
 use Rattle.law_shim.proofs.Sealing.{Keeps, relaid_keeps}
+use Rattle.book_endpoint.specs.Emissions.{written_ao}
 
 -- ---- checksums are right
 
@@ -54,7 +55,7 @@ summed_right service identification flags ttl options d =
     let some : 0 < words_sum blank = header_some (69 + length options / 4) service (put2 (20 + length options + tcp_length d) (put2 identification (64 * flags ∷ 0 ∷ ttl ∷ 6 ∷ put2 0 rest))) (omega arith) in
     is_right full (omega arith) (rw more (complement_completes blank some))
 
-laid_fits : (i : IpHeader) (d : Segment) (area : List ℕ) → FitsIp i d → length_in_header i (with_area d area) ≤ 65535
+pub laid_fits : (i : IpHeader) (d : Segment) (area : List ℕ) → FitsIp i d → length_in_header i (with_area d area) ≤ 65535
     → FitsIp (summed i (with_area d area)) (record (with_area d area) { ip = summed i (with_area d area) })
 laid_fits (Ipv4 service identification flags ttl checksum options) d area f h = record {
   service_fits = f.service_fits;
@@ -83,21 +84,21 @@ relaid_good d area f h = finished_good (record (with_area d area) { ip = summed 
 -- ---- what stands in the MAC field isn't covered
 
 covered_with : (area : List ℕ) (s : Sending) (code : List ℕ)
-    → covered true (area ++ ao_bytes s code) (ao_last area s code) ≡ (area ++ (29 ∷ (4 + length code) ∷ s.key_id ∷ s.rnext_key_id ∷ [])) ++ (replicate (length code) 0 ++ [])
+    → covered true (area ++ written_ao s code) (ao_last area s code) ≡ (area ++ (29 ∷ (4 + length code) ∷ s.key_id ∷ s.rnext_key_id ∷ [])) ++ (replicate (length code) 0 ++ [])
 covered_with area s code =
     let h = 29 ∷ (4 + length code) ∷ s.key_id ∷ s.rnext_key_id ∷ [] in
-    let whole : area ++ ao_bytes s code ≡ (area ++ h) ++ code = sym (append_assoc area h code) in
+    let whole : area ++ written_ao s code ≡ (area ++ h) ++ code = sym (append_assoc area h code) in
     let long_h = length-append area h in
     let long = length-append (area ++ h) code in
-    let front : take (length area + 4) (area ++ ao_bytes s code) ≡ area ++ h =
+    let front : take (length area + 4) (area ++ written_ao s code) ≡ area ++ h =
     ap (take (length area + 4)) whole ∙ take_exact (area ++ h) code (length area + 4) (omega arith) in
-    let after : drop (length area + 4 + length code) (area ++ ao_bytes s code) ≡ [] =
+    let after : drop (length area + 4 + length code) (area ++ written_ao s code) ≡ [] =
     ap (drop (length area + 4 + length code)) (whole ∙ sym (append-nil ((area ++ h) ++ code))) ∙ drop_exact ((area ++ h) ++ code) [] (length area + 4 + length code) (omega arith) in
-    ap (λ (l : List ℕ). l ++ (replicate (length code) 0 ++ drop (length area + 4 + length code) (area ++ ao_bytes s code))) front
+    ap (λ (l : List ℕ). l ++ (replicate (length code) 0 ++ drop (length area + 4 + length code) (area ++ written_ao s code))) front
     ∙ ap (λ (l : List ℕ). (area ++ h) ++ (replicate (length code) 0 ++ l)) after
 
 pub covered_same : (flag : Bool) (area : List ℕ) (s : Sending) (one two : List ℕ) → length one ≡ length two
-    → covered flag (area ++ ao_bytes s one) (ao_last area s one) ≡ covered flag (area ++ ao_bytes s two) (ao_last area s two)
+    → covered flag (area ++ written_ao s one) (ao_last area s one) ≡ covered flag (area ++ written_ao s two) (ao_last area s two)
 covered_same true area s one two e =
     covered_with area s one ∙ ap (λ (n : ℕ). (area ++ (29 ∷ (4 + n) ∷ s.key_id ∷ s.rnext_key_id ∷ [])) ++ (replicate n 0 ++ [])) e ∙ sym (covered_with area s two)
 covered_same false area s one two e = ap (λ (n : ℕ). 29 ∷ (4 + n) ∷ s.key_id ∷ s.rnext_key_id ∷ replicate n 0) e

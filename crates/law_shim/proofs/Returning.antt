@@ -1,6 +1,6 @@
 -- What one guard seals comes out of the other.
 use Rattle.std.proofs.Common.{◌≡◌, ℕ, ◌+◌, ◌-◌, ◌%◌, ◌<◌, ◌≤◌, ◌&&◌, ◌||◌, not, Bool, true, false, List, [], ◌∷◌, ◌++◌, length, replicate, Option, Some, None, Ok, Err, refl, sym, ap, subst, ◌∙◌, arith, length-append, if◌then◌else◌}
-use Rattle.std.specs.Prelude.{is_some, ◌/◌, ◌==◌}
+use Rattle.std.specs.Prelude.{is_some, ◌/◌, ◌==◌, flat_map}
 use Rattle.std.specs.List.{list_any, AllByRecursion}
 use Rattle.std.proofs.lemmas.List.{append-nil}
 use Rattle.std.proofs.lemmas.Bool.Decides.{nat_tests}
@@ -21,34 +21,35 @@ use Rattle.book_keys.specs.Coordination.{Sending}
 use Rattle.book_endpoint.specs.declared.verdict.Verdict.TheVariants.{NoContext}
 use Rattle.book_endpoint.specs.States.{number_limit}
 use Rattle.book_endpoint.specs.Verdicts.{Finding, Judgement, judge, found_with, segment_number}
-use Rattle.book_endpoint.specs.Emissions.{ao_length}
+use Rattle.book_endpoint.specs.Emissions.{ao_length, written_ao, no_mac}
 use Rattle.book_endpoint.specs.Arrivals.{from_peer}
 use Rattle.book_shim.specs.declared.kept.Kept.{Kept}
 use Rattle.book_shim.specs.declared.refusal.Untaken.TheVariants.{Unkeyed, Checksum}
 use Rattle.book_shim.specs.Keeping.{Setting, demand, is_keyed}
-use Rattle.book_shim.specs.Relaying.{spelled, going, coming, written_by, in_words, rewritten, fitted, relaid, with_area, length_in_header, coming_area, most_mss}
+use Rattle.book_shim.specs.Relaying.{spelled, going, coming, in_words, rewritten, fitted, relaid, with_area, length_in_header, coming_area, most_mss}
 use Rattle.book_shim.specs.declared.trim.Trim.{Trim}
-use Rattle.book_shim.specs.Leaving.{Sealed, entered, kept_for, signs, send_sealed, with_ao, ao_bytes, ao_last, no_code, input_for, code_for}
+use Rattle.book_shim.specs.Leaving.{Sealed, entered, kept_for, signs, send_sealed, as_sent, with_ao, ao_last, input_for, code_for}
 use Rattle.book_shim.specs.Arriving.{Opened, as_taken, judged_arrival, is_awaited, known_for, handed_on, take_in, take_read}
 use Rattle.law_shim.specs.Origins.{AgreesWith, IsMet, ComesOut}
 use Rattle.law_shim.proofs.Areas.{IsOpenPlain, IsNot, written_listed, plains_placed, written_append, unsigned, ao_plain, front, front_written, whole_written, whole_open, front_open, front_not, listed_plain, ao_found}
-use Rattle.law_shim.proofs.Sealing.{fitted_words, sends, IsFitted, is_fitted, Keeps, relaid_keeps, no_code_long}
-use Rattle.law_shim.proofs.Opening.{relaid_good, covered_same, same_input, remainder_of, meant_near, accepted_keyed, passes_through}
+use Rattle.law_shim.proofs.Sealing.{fitted_words, sends, IsFitted, is_fitted, Keeps, relaid_keeps, sent_keeps, no_code_long}
+use Rattle.law_shim.proofs.Sums.{sent_good, input_sent}
+use Rattle.law_shim.proofs.Opening.{covered_same, same_input, remainder_of, meant_near, accepted_keyed, passes_through}
 
 rewritten_is : (k : Trim) (area : List ℕ)
-    → rewritten (going k) area ≡ written_by (going k) (plains (listed (options_of area))) ++ replicate ((4 - length (written_by (going k) (plains (listed (options_of area)))) % 4) % 4) 1
+    → rewritten (going k) area ≡ flat_map (going k) (plains (listed (options_of area))) ++ replicate ((4 - length (flat_map (going k) (plains (listed (options_of area)))) % 4) % 4) 1
 unfolding rewritten
 rewritten_is k area = refl
 
 -- the TCP-AO option is found after what fits
 pub fitted_found : (d : Segment) (area : List ℕ) (s : Sending) (code : List ℕ) → Fits d → list_any signs (plains (listed (options_of d.area))) ≡ false
-    → IsFitted (40 - ao_length s) d.area area → find_ao (area ++ ao_bytes s code) ≡ One (ao_last area s code)
+    → IsFitted (40 - ao_length s) d.area area → find_ao (area ++ written_ao s code) ≡ One (ao_last area s code)
 fitted_found d area s code f none fit =
     let os = plains (listed (options_of d.area)) in
-    let w = written_by (going fit.trim) os in
+    let w = flat_map (going fit.trim) os in
     let n = (4 - length w % 4) % 4 in
     let is : area ≡ w ++ replicate n 1 = fit.is ∙ rewritten_is fit.trim d.area in
-    subst (λ (a : List ℕ). find_ao (a ++ ao_bytes s code) ≡ One (ao_last a s code)) (sym is) (ao_found fit.trim n os s code (listed_plain d.area f.listed) none)
+    subst (λ (a : List ℕ). find_ao (a ++ written_ao s code) ≡ One (ao_last a s code)) (sym is) (ao_found fit.trim n os s code (listed_plain d.area f.listed) none)
 
 told_same : (i : IpHeader) (d e : Segment) → tcp_length d ≡ tcp_length e → length_in_header i d ≡ length_in_header i e
 told_same (Ipv4 a b c f g o) d e h = ap (λ (n : ℕ). 20 + length o + n) h
@@ -117,23 +118,23 @@ whole_words xs h =
     let none : (4 - length xs % 4) % 4 ≡ 0 = omega arith in
     ap (λ (n : ℕ). xs ++ replicate n 1) none ∙ append-nil xs
 
-rewritten_by : (w : Plain → List ℕ) (area : List ℕ) (ps : List Plain) → plains (listed (options_of area)) ≡ ps → rewritten w area ≡ in_words (written_by w ps)
+rewritten_by : (w : Plain → List ℕ) (area : List ℕ) (ps : List Plain) → plains (listed (options_of area)) ≡ ps → rewritten w area ≡ in_words (flat_map w ps)
 unfolding rewritten
-rewritten_by w area ps e = ap (λ (l : List Plain). in_words (written_by w l)) e
+rewritten_by w area ps e = ap (λ (l : List Plain). in_words (flat_map w l)) e
 
-written_plains : (qs : List Plain) → AllByRecursion IsOpenPlain qs → plains (listed (options_of (written_by spelled qs))) ≡ qs
+written_plains : (qs : List Plain) → AllByRecursion IsOpenPlain qs → plains (listed (options_of (flat_map spelled qs))) ≡ qs
 written_plains qs h = ap (λ (o : Options). plains (listed o)) (written_listed qs h) ∙ plains_placed 0 qs
 
-ao_comes : (most : Option ℕ) (s : Sending) (code : List ℕ) → written_by (coming most) (ao_plain s code ∷ []) ≡ []
+ao_comes : (most : Option ℕ) (s : Sending) (code : List ℕ) → flat_map (coming most) (ao_plain s code ∷ []) ≡ []
 ao_comes most s code = refl
 
 -- without TCP-AO the options come in as those in front of it would
 front_comes : (most : Option ℕ) (qs : List Plain) (s : Sending) (code : List ℕ) → AllByRecursion IsOpenPlain (qs ++ ao_plain s code ∷ []) → AllByRecursion IsOpenPlain qs
-    → rewritten (coming most) (written_by spelled (qs ++ ao_plain s code ∷ [])) ≡ rewritten (coming most) (written_by spelled qs)
+    → rewritten (coming most) (flat_map spelled (qs ++ ao_plain s code ∷ [])) ≡ rewritten (coming most) (flat_map spelled qs)
 front_comes most qs s code h k =
-    rewritten_by (coming most) (written_by spelled (qs ++ ao_plain s code ∷ [])) (qs ++ ao_plain s code ∷ []) (written_plains (qs ++ ao_plain s code ∷ []) h)
-    ∙ ap in_words (written_append (coming most) qs (ao_plain s code ∷ []) ∙ ap (λ (l : List ℕ). written_by (coming most) qs ++ l) (ao_comes most s code) ∙ append-nil (written_by (coming most) qs))
-    ∙ sym (rewritten_by (coming most) (written_by spelled qs) qs (written_plains qs k))
+    rewritten_by (coming most) (flat_map spelled (qs ++ ao_plain s code ∷ [])) (qs ++ ao_plain s code ∷ []) (written_plains (qs ++ ao_plain s code ∷ []) h)
+    ∙ ap in_words (written_append (coming most) qs (ao_plain s code ∷ []) ∙ ap (λ (l : List ℕ). flat_map (coming most) qs ++ l) (ao_comes most s code) ∙ append-nil (flat_map (coming most) qs))
+    ∙ sym (rewritten_by (coming most) (flat_map spelled qs) qs (written_plains qs k))
 
 -- a segment without SYN has no maximum segment size to lower
 no_most : (mtu : ℕ) (d : Segment) → has SYN d ≡ false → most_mss mtu d ≡ None
@@ -148,19 +149,19 @@ above_zero : (n : ℕ) → 0 < n → (n == 0) ≡ false
 above_zero n h = grind (arith, nat_tests)
 
 -- without SYN each stays
-stays : (qs : List Plain) → AllByRecursion IsOpenPlain qs → AllByRecursion (IsNot 29) qs → written_by (coming None) qs ≡ written_by spelled qs
+stays : (qs : List Plain) → AllByRecursion IsOpenPlain qs → AllByRecursion (IsNot 29) qs → flat_map (coming None) qs ≡ flat_map spelled qs
 stays [] h k = refl
 stays (o ∷ os) h k =
-    ap (λ (l : List ℕ). l ++ written_by (coming None) os) (comes_by (o.kind == 0) (o.kind == 29) o (above_zero o.kind h.0.kind) k.0)
+    ap (λ (l : List ℕ). l ++ flat_map (coming None) os) (comes_by (o.kind == 0) (o.kind == 29) o (above_zero o.kind h.0.kind) k.0)
     ∙ ap (λ (l : List ℕ). spelled o ++ l) (stays os h.1 k.1)
 
-front_stays : (qs : List Plain) → AllByRecursion IsOpenPlain qs → AllByRecursion (IsNot 29) qs → length (written_by spelled qs) % 4 ≡ 0
-    → rewritten (coming None) (written_by spelled qs) ≡ written_by spelled qs
+front_stays : (qs : List Plain) → AllByRecursion IsOpenPlain qs → AllByRecursion (IsNot 29) qs → length (flat_map spelled qs) % 4 ≡ 0
+    → rewritten (coming None) (flat_map spelled qs) ≡ flat_map spelled qs
 front_stays qs h k w =
-    rewritten_by (coming None) (written_by spelled qs) qs (written_plains qs h) ∙ ap in_words (stays qs h k) ∙ whole_words (written_by spelled qs) w
+    rewritten_by (coming None) (flat_map spelled qs) qs (written_plains qs h) ∙ ap in_words (stays qs h k) ∙ whole_words (flat_map spelled qs) w
 
 pub record Options_ (d : Segment) (area : List ℕ) (s : Sending) (code : List ℕ) : Type 0 where
-  pub come : (most : Option ℕ) → coming_area most (area ++ ao_bytes s code) ≡ coming_area most area
+  pub come : (most : Option ℕ) → coming_area most (area ++ written_ao s code) ≡ coming_area most area
   pub stay : coming_area None area ≡ area
 
 pub fitted_options : (d : Segment) (area : List ℕ) (s : Sending) (code : List ℕ) → Fits d → list_any signs (plains (listed (options_of d.area))) ≡ false
@@ -168,16 +169,16 @@ pub fitted_options : (d : Segment) (area : List ℕ) (s : Sending) (code : List 
 fitted_options d area s code f none fit w =
     let os = plains (listed (options_of d.area)) in
     let k = fit.trim in
-    let n = (4 - length (written_by (going k) os) % 4) % 4 in
+    let n = (4 - length (flat_map (going k) os) % 4) % 4 in
     let qs = front k n os in
-    let is : area ≡ written_by spelled qs = fit.is ∙ rewritten_is k d.area ∙ sym (front_written k n os) in
+    let is : area ≡ flat_map spelled qs = fit.is ∙ rewritten_is k d.area ∙ sym (front_written k n os) in
     let plain = listed_plain d.area f.listed in
     let open_all = whole_open k n os s code plain in
     let open_front = front_open k n os plain in
     let u = unsigned os none in
     let not_ao = front_not 29 k n os refl refl u.0 in
-    let all_is : area ++ ao_bytes s code ≡ written_by spelled (qs ++ ao_plain s code ∷ []) =
-    ap (λ (l : List ℕ). l ++ ao_bytes s code) (is ∙ front_written k n os) ∙ sym (whole_written k n os s code) in
+    let all_is : area ++ written_ao s code ≡ flat_map spelled (qs ++ ao_plain s code ∷ []) =
+    ap (λ (l : List ℕ). l ++ written_ao s code) (is ∙ front_written k n os) ∙ sym (whole_written k n os s code) in
     record {
       come = λ most. ap (λ (l : List ℕ). coming_area most l) all_is ∙ front_comes most qs s code open_all open_front ∙ ap (λ (l : List ℕ). coming_area most l) (sym is);
       stay = ap (λ (l : List ℕ). coming_area None l) is ∙ front_stays qs open_front not_ao (subst (λ (l : List ℕ). length l % 4 ≡ 0) is w) ∙ sym is;
@@ -185,14 +186,14 @@ fitted_options d area s code f none fit w =
 
 -- the options with TCP-AO after them are listed
 pub front_listed : (d : Segment) (area : List ℕ) (s : Sending) (code : List ℕ) → Fits d → list_any signs (plains (listed (options_of d.area))) ≡ false
-    → IsFitted (40 - ao_length s) d.area area → AreListed (options_of (area ++ ao_bytes s code))
+    → IsFitted (40 - ao_length s) d.area area → AreListed (options_of (area ++ written_ao s code))
 front_listed d area s code f none fit =
     let os = plains (listed (options_of d.area)) in
     let k = fit.trim in
-    let n = (4 - length (written_by (going k) os) % 4) % 4 in
-    let is : area ≡ written_by (going k) os ++ replicate n 1 = fit.is ∙ rewritten_is k d.area in
+    let n = (4 - length (flat_map (going k) os) % 4) % 4 in
+    let is : area ≡ flat_map (going k) os ++ replicate n 1 = fit.is ∙ rewritten_is k d.area in
     let qs = front k n os ++ ao_plain s code ∷ [] in
-    let all_is : area ++ ao_bytes s code ≡ written_by spelled qs = ap (λ (l : List ℕ). l ++ ao_bytes s code) is ∙ sym (whole_written k n os s code) in
+    let all_is : area ++ written_ao s code ≡ flat_map spelled qs = ap (λ (l : List ℕ). l ++ written_ao s code) is ∙ sym (whole_written k n os s code) in
     subst (λ (o : Options). AreListed o) (sym (ap options_of all_is ∙ written_listed qs (whole_open k n os s code (listed_plain d.area f.listed)))) tt
 
 pub comes_out : (sending here : Setting) (pair_there pair : Pair) (there g : Kept) (d : Segment) (m : Sealed) → Fits d
@@ -203,26 +204,26 @@ comes_out sending here pair_there pair there g d m f h met =
     let area = z.area in
     let input = input_for d area s m.number in
     let code = code_for s m.context input in
-    let a = area ++ ao_bytes s code in
-    let blank = area ++ ao_bytes s (no_code s) in
+    let a = area ++ written_ao s code in
+    let blank = area ++ written_ao s (no_mac s) in
     let e = m.segment in
-    let is : e ≡ relaid d a = ap (λ (x : Sealed). x.segment) z.sent_is in
+    let is : e ≡ as_sent (relaid d a) = ap (λ (x : Sealed). x.segment) z.sent_is in
     let given : m.given ≡ d = ap (λ (x : Sealed). x.given) z.sent_is in
-    let k : Keeps d e a = subst (λ (x : Segment). Keeps d x a) (sym is) (relaid_keeps d a) in
+    let k : Keeps d e a = subst (λ (x : Segment). Keeps d x a) (sym is) (sent_keeps d a) in
     let fit = is_fitted (40 - ao_length s) d.area area z.fits in
     let code_long : length code ≡ mac_length_of s.row.algorithm =
     length-mac s.row.algorithm (traffic_key s.row.algorithm s.row.master m.context) input (length-traffic_key s.row.algorithm s.row.master m.context) in
-    let same_long : length (no_code s) ≡ length code = no_code_long s ∙ sym code_long in
-    let long_one = length-append area (ao_bytes s (no_code s)) in
-    let long_two = length-append area (ao_bytes s code) in
+    let same_long : length (no_mac s) ≡ length code = no_code_long s ∙ sym code_long in
+    let long_one = length-append area (written_ao s (no_mac s)) in
+    let long_two = length-append area (written_ao s code) in
     let areas : length blank ≡ length a = omega arith in
     let ao : Ao = ao_last area s code in
     let p : Finding = found_with met.row e ao m.context m.number in
     let syn : has SYN d ≡ has SYN e = ap (λ (n : ℕ). ((n / 2) % 2 == 1)) (sym k.flags) in
     let sizes : segment_length e ≡ segment_length d = length_same e d k.payload k.flags in
     let inputs : input ≡ mac_input m.number e ao met.row.row.with_options =
-    same_input m.number d blank a (ao_last area s (no_code s)) ao s.row.with_options areas (covered_same s.row.with_options area s (no_code s) code same_long)
-    ∙ ap (λ (x : Segment). mac_input m.number x ao s.row.with_options) (sym is) ∙ ap (λ (b : Bool). mac_input m.number e ao b) (sym met.with_options) in
+    same_input m.number d blank a (ao_last area s (no_mac s)) ao s.row.with_options areas (covered_same s.row.with_options area s (no_mac s) code same_long)
+    ∙ sym (input_sent m.number (relaid d a) ao s.row.with_options) ∙ ap (λ (x : Segment). mac_input m.number x ao s.row.with_options) (sym is) ∙ ap (λ (b : Bool). mac_input m.number e ao b) (sym met.with_options) in
     let verdict : judge here.rows pair (known_for g e) here.now e ≡ Ok p =
     passes_through here.rows pair (known_for g e) here.now e ao met.row m.context m.number (ap find_ao k.area_is ∙ fitted_found d area s code f z.plain fit) met.accepted
     (code_long ∙ ap mac_length_of (sym met.algorithm)) met.context (heard_by (has SYN e) (known_for g e).expected (λ no_syn. let r = met.near no_syn in (r.0, r.1)))
@@ -230,8 +231,8 @@ comes_out sending here pair_there pair there g d m f h met =
     (subst (λ (n : ℕ). m.number + n ≤ number_limit) (sym sizes) z.ends)
     (code_right met.row.row s m.context input (mac_input m.number e ao met.row.row.with_options) met.algorithm met.master inputs) in
     let whole : length_in_header d.ip (with_area d a) ≤ 65535 =
-    subst (λ (n : ℕ). n ≤ 65535) (told_same d.ip (with_ao d area s (no_code s)) (with_area d a) (total_same d blank a (relaid_keeps d blank) areas)) z.whole in
-    let right : good e ≡ true = ap good is ∙ relaid_good d a f.ip whole in
+    subst (λ (n : ℕ). n ≤ 65535) (told_same d.ip (with_ao d area s (no_mac s)) (with_area d a) (total_same d blank a (relaid_keeps d blank) areas)) z.whole in
+    let right : good e ≡ true = ap good is ∙ sent_good d a f.ip whole in
     let l = relaid_keeps e (coming_area (most_mss here.mtu e) e.area) in
     let os = fitted_options d area s code f z.plain fit (fitted_words _ d.area area z.fits) in
     let G : Segment → Type 0 = λ x. AgreesWith x (relaid e (coming_area (most_mss here.mtu e) e.area)) in

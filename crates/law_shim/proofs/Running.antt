@@ -22,7 +22,7 @@ use Rattle.book_shim.specs.declared.refusal.Unsent.{Unsent}
 use Rattle.book_shim.specs.declared.refusal.Unsent.TheVariants.{Foreign}
 use Rattle.book_shim.specs.declared.refusal.Untaken.TheVariants.{Foreign as Strange}
 use Rattle.book_shim.specs.declared.refusal.Untaken.{Untaken}
-use Rattle.book_shim.specs.Leaving.{Sealed, send_sealed, send_read, outbound, with_ao, ao_bytes, no_code, ao_last}
+use Rattle.book_shim.specs.Leaving.{Sealed, send_sealed, send_read, outbound, with_ao, ao_last}
 use Rattle.book_shim.specs.Arriving.{Opened, take_in, take_read, inbound, known_for}
 use Rattle.book_shim.specs.Relaying.{relaid, coming_area, most_mss}
 use Rattle.law_shim.specs.Worlds.{Side, Left, Right, other, same_side, pair_at, Event, Leaves, Arrives, Made, World, kept_at, keeping, after_leaving, after_arriving, run, accounts_for, was_made, Gave, WasSealed, IsBytewise}
@@ -31,6 +31,7 @@ use Rattle.law_shim.proofs.Meanings.{same_inputs, same_family, fits_sized}
 use Rattle.law_shim.proofs.Blanks.{comes_blank}
 use Rattle.law_shim.proofs.Returning.{fitted_found, fitted_options, front_listed}
 use Rattle.law_shim.proofs.Sealing.{same_most, is_fitted, IsSealed, sends, Keeps, relaid_keeps, relaid_family, blank_sized, fitted_words, IsOpened, takes}
+use Rattle.book_endpoint.specs.Emissions.{written_ao, no_mac}
 
 -- ---- one step
 
@@ -253,17 +254,17 @@ authentic_input pair events at here bytes t all b e made =
     let z = s.sealed_so in
     let sending = m.sent.sending in
     let area = z.area in
-    let blank = with_ao given area sending (no_code sending) in
+    let blank = with_ao given area sending (no_mac sending) in
     let source : given.source ≡ d.source = s.source ∙ ap (λ (x : Side). (pair_at pair x).local) found.maker ∙ local_across pair at ∙ sym w.source in
     let destination : given.destination ≡ d.destination = s.destination ∙ ap (λ (x : Side). (pair_at pair x).remote) found.maker ∙ remote_across pair at ∙ sym w.destination in
-    let k = relaid_keeps given (area ++ ao_bytes sending (no_code sending)) in
-    let family = relaid_family given d (area ++ ao_bytes sending (no_code sending)) (same_family given.ip d.ip given d source s.fits.ip fd.ip) in
-    let input : mac_input m.sent.number blank (ao_last area sending (no_code sending)) sending.row.with_options ≡ mac_input p.number d passes.ao passes.row.row.with_options =
+    let k = relaid_keeps given (area ++ written_ao sending (no_mac sending)) in
+    let family = relaid_family given d (area ++ written_ao sending (no_mac sending)) (same_family given.ip d.ip given d source s.fits.ip fd.ip) in
+    let input : mac_input m.sent.number blank (ao_last area sending (no_mac sending)) sending.row.with_options ≡ mac_input p.number d passes.ao passes.row.row.with_options =
     sym (ap (λ (x : Sealed). x.input) z.sent_is) ∙ found.input ∙ ap (λ (x : Finding). x.input) passes.finding in
-    let same = same_inputs m.sent.number p.number blank d (ao_last area sending (no_code sending)) passes.ao sending.row.with_options passes.row.row.with_options
+    let same = same_inputs m.sent.number p.number blank d (ao_last area sending (no_mac sending)) passes.ao sending.row.with_options passes.row.row.with_options
     family (k.source ∙ source) (k.destination ∙ destination) (blank_sized given area sending s.fits (fitted_words _ given.area area z.fits) z.whole) (fits_sized d fd) input in
     let out_is : t.segment ≡ relaid d (coming_area (most_mss here.mtu d) d.area) = ap (λ (x : Opened). x.segment) w.opened_so.taken_is in
-    let agrees = carried given blank d (relaid d (coming_area (most_mss here.mtu d) d.area)) (area ++ ao_bytes sending (no_code sending)) (coming_area (most_mss here.mtu d) d.area) k same.agrees (relaid_keeps d (coming_area (most_mss here.mtu d) d.area)) in (
+    let agrees = carried given blank d (relaid d (coming_area (most_mss here.mtu d) d.area)) (area ++ written_ao sending (no_mac sending)) (coming_area (most_mss here.mtu d) d.area) k same.agrees (relaid_keeps d (coming_area (most_mss here.mtu d) d.area)) in (
       record {
         sent = m.sent;
         made = found.sealed_there;
@@ -279,8 +280,8 @@ authentic_input pair events at here bytes t all b e made =
             let flag_there : passes.row.row.with_options ≡ true =
             ap (λ (x : Row). x.with_options) (sym (passes.acceptable_row.here passes.row.row) ∙ ap (λ (i : ℕ). slice_index_or here.rows (i - 1) passes.row.row) (sym passed_row)) ∙ passing passes.row.row in
             let most_is : most_mss here.mtu t.segment ≡ most_mss here.mtu d = ap (λ (x : Segment). most_mss here.mtu x) out_is ∙ same_most here.mtu d (coming_area (most_mss here.mtu d) d.area) in
-            let blank_code = no_code sending in
-            let covers_both : covered true (area ++ ao_bytes sending blank_code) (ao_last area sending blank_code) ≡ covered true d.area passes.ao =
+            let blank_code = no_mac sending in
+            let covers_both : covered true (area ++ written_ao sending blank_code) (ao_last area sending blank_code) ≡ covered true d.area passes.ao =
             ap (λ (l : List ℕ). covered true l (ao_last area sending blank_code)) (sym k.area_is)
             ∙ ap (λ (b : Bool). covered b blank.area (ao_last area sending blank_code)) (sym flag) ∙ same.covers ∙ ap (λ (b : Bool). covered b d.area passes.ao) flag_there in
             let os = fitted_options given area sending blank_code s.fits z.plain (is_fitted _ given.area area z.fits) (fitted_words _ given.area area z.fits) in
@@ -288,7 +289,7 @@ authentic_input pair events at here bytes t all b e made =
             ap (λ (x : Segment). x.area) out_is ∙ (relaid_keeps d (coming_area (most_mss here.mtu d) d.area)).area_is
             ∙ sym (comes_blank (most_mss here.mtu d) d.area passes.ao fd.listed (one_found d passes))
             ∙ ap (λ (l : List ℕ). coming_area (most_mss here.mtu d) l) (sym covers_both)
-            ∙ comes_blank (most_mss here.mtu d) (area ++ ao_bytes sending blank_code) (ao_last area sending blank_code) listed_blank (fitted_found given area sending blank_code s.fits z.plain (is_fitted _ given.area area z.fits))
+            ∙ comes_blank (most_mss here.mtu d) (area ++ written_ao sending blank_code) (ao_last area sending blank_code) listed_blank (fitted_found given area sending blank_code s.fits z.plain (is_fitted _ given.area area z.fits))
             ∙ os.come (most_mss here.mtu d) ∙ ap (λ (o : Option ℕ). coming_area o area) (sym most_is);
       },
       found.input,

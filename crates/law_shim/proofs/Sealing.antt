@@ -1,6 +1,6 @@
 -- What a segment that was sealed, and one that was opened, is made of.
 use Rattle.std.proofs.Common.{◌≡◌, ℕ, zero, suc, ◌+◌, ◌-◌, ◌%◌, ◌<◌, ◌≤◌, ◌&&◌, not, Bool, true, false, nat_le, List, ◌++◌, length, replicate, Option, Some, None, Result, Ok, Err, refl, sym, ap, subst, ◌∙◌, arith, length-append, if◌then◌else◌, inl, inr}
-use Rattle.std.specs.Prelude.{◌/◌, ◌==◌}
+use Rattle.std.specs.Prelude.{◌/◌, ◌==◌, flat_map}
 use Rattle.std.proofs.lemmas.List.{length-replicate}
 use Rattle.std.specs.Option.{option_or}
 use Rattle.std.specs.List.{list_any}
@@ -18,16 +18,16 @@ use Rattle.book_keys.specs.Coordination.{Sending, choose}
 use Rattle.book_endpoint.specs.declared.verdict.Verdict.TheVariants.{NoContext as Nothing}
 use Rattle.book_endpoint.specs.States.{number_limit}
 use Rattle.book_endpoint.specs.Verdicts.{Finding, Judgement, judge, segment_number}
-use Rattle.book_endpoint.specs.Emissions.{ao_length}
+use Rattle.book_endpoint.specs.Emissions.{ao_length, written_ao, no_mac}
 use Rattle.book_shim.specs.declared.kept.Kept.{Kept}
 use Rattle.book_shim.specs.declared.refusal.Unsent.{Unsent}
 use Rattle.book_shim.specs.declared.refusal.Unsent.TheVariants.{Unkeyed, Signed, NoContext, Range, NoKey, NoRoom, TooLong}
 use Rattle.book_shim.specs.declared.refusal.Untaken.{Untaken}
 use Rattle.book_shim.specs.declared.refusal.Untaken.TheVariants.{Unkeyed as Keyless, Checksum}
 use Rattle.book_shim.specs.Keeping.{Setting, demand, own_isn, peer_isn, is_keyed}
-use Rattle.book_shim.specs.Relaying.{written_by, in_words, rewritten, going, if_room, packed_in, fitted_from, fitted, relaid, with_area, summed, length_in_header, headers_length, most_mss}
+use Rattle.book_shim.specs.Relaying.{in_words, rewritten, going, if_room, packed_in, fitted_from, fitted, relaid, with_area, summed, length_in_header, headers_length, most_mss}
 use Rattle.book_shim.specs.declared.trim.Trim.{Trim}
-use Rattle.book_shim.specs.Leaving.{Sealed, signs, entered, kept_for, sealed_with, send_within, send_sealed, with_ao, ao_bytes, no_code}
+use Rattle.book_shim.specs.Leaving.{Sealed, signs, entered, kept_for, as_sent, sealed_with, send_within, send_sealed, with_ao}
 use Rattle.book_shim.specs.Arriving.{Opened, as_taken, judged_arrival, is_awaited, known_for, handed_on, take_in}
 use Rattle.law_shim.proofs.Meanings.{Sized}
 
@@ -66,7 +66,7 @@ filled xs =
 
 pub rewritten_words : (write : Plain → List ℕ) (area : List ℕ) → length (rewritten write area) % 4 ≡ 0
 unfolding rewritten
-rewritten_words write area = filled (written_by write (plains (listed (options_of area))))
+rewritten_words write area = filled (flat_map write (plains (listed (options_of area))))
 
 either : {X : Type 0} (P : X → Type 0) (a b : Option X) (out : X) → (a ≡ Some out → P out) → (b ≡ Some out → P out) → option_or a b ≡ Some out → P out
 either P (Some x) b out one two e = one e
@@ -123,8 +123,8 @@ pub record IsSealed (here : Setting) (pair : Pair) (g : Kept) (d : Segment) (m :
   pub ends : m.number + segment_length d ≤ number_limit
   pub chosen : choose (entered g d).current here.rows pair here.now ≡ Some m.sending
   pub fits : fitted (40 - ao_length m.sending) d.area ≡ Some area
-  pub whole : length_in_header d.ip (with_ao d area m.sending (no_code m.sending)) ≤ 65535
-  pub sent_is : m ≡ sealed_with (entered g d) d area (record { sending = m.sending; context = m.context; number = m.number })
+  pub whole : length_in_header d.ip (with_ao d area m.sending (no_mac m.sending)) ≤ 65535
+  pub sent_is : m ≡ sealed_with (entered g d) d area m.sending m.context m.number
 
 pub sends : (here : Setting) (pair : Pair) (g : Kept) (d : Segment) (m : Sealed) → send_sealed here pair g d ≡ Ok m → IsSealed here pair g d m
 unfolding send_within
@@ -138,8 +138,8 @@ sends here pair g d m h =
     let b5 = bind_ok (demand (nat_le (b4.0 + segment_length d) number_limit) Range) _ m b4.2 in
     let b6 = bind_ok (or_fault (choose e.current here.rows pair here.now) NoKey) _ m b5.2 in
     let b7 = bind_ok (or_fault (fitted (40 - ao_length b6.0) d.area) NoRoom) _ m b6.2 in
-    let b8 = bind_ok (demand (nat_le (length_in_header d.ip (with_ao d b7.0 b6.0 (no_code b6.0))) 65535) TooLong) _ m b7.2 in
-    let is : sealed_with e d b7.0 (record { sending = b6.0; context = b3.0; number = b4.0 }) ≡ m = ok_is {F = Unsent} _ m b8.2 in
+    let b8 = bind_ok (demand (nat_le (length_in_header d.ip (with_ao d b7.0 b6.0 (no_mac b6.0))) 65535) TooLong) _ m b7.2 in
+    let is : sealed_with e d b7.0 b6.0 b3.0 b4.0 ≡ m = ok_is {F = Unsent} _ m b8.2 in
     let Goal : Sealed → Type 0 = λ x. IsSealed here pair g d x in
     subst Goal is (record {
       keyed = demanded _ Unkeyed b0.0 b0.1;
@@ -186,6 +186,23 @@ relaid_keeps d area = record {
   ip_is = refl;
 }
 
+-- so does one that is sent
+pub sent_keeps : (d : Segment) (area : List ℕ) → Keeps d (as_sent (relaid d area)) area
+unfolding relaid
+sent_keeps d area = record {
+  source = refl;
+  destination = refl;
+  sequence = refl;
+  acknowledgement = refl;
+  reserved = refl;
+  flags = refl;
+  window = refl;
+  urgent = refl;
+  payload = refl;
+  area_is = refl;
+  ip_is = refl;
+}
+
 summed_family : (i j : IpHeader) (d : Segment) → SameFamily i j → SameFamily (summed i d) j
 summed_family (Ipv4 a b c f g o) (Ipv4 a2 b2 c2 f2 g2 o2) d h = tt
 summed_family (Ipv6 a b) (Ipv6 a2 b2) d h = tt
@@ -216,20 +233,20 @@ told_total (Ipv6 a b) d h = omega arith
 ao_words : (s : Sending) (n : ℕ) → n % 4 ≡ 0 → (n + (4 + mac_length_of s.row.algorithm)) % 4 ≡ 0
 ao_words s n h = elim (twelve_or_sixteen s.row.algorithm) [ inl e ↦ omega arith | inr e ↦ omega arith ]
 
-pub no_code_long : (s : Sending) → length (no_code s) ≡ mac_length_of s.row.algorithm
+pub no_code_long : (s : Sending) → length (no_mac s) ≡ mac_length_of s.row.algorithm
 no_code_long s = length-replicate (mac_length_of s.row.algorithm) 0
 
-pub ao_area_words : (s : Sending) (area : List ℕ) → length area % 4 ≡ 0 → length (area ++ ao_bytes s (no_code s)) % 4 ≡ 0
+pub ao_area_words : (s : Sending) (area : List ℕ) → length area % 4 ≡ 0 → length (area ++ written_ao s (no_mac s)) % 4 ≡ 0
 ao_area_words s area h =
-    let a = length-append area (ao_bytes s (no_code s)) in
+    let a = length-append area (written_ao s (no_mac s)) in
     let n = no_code_long s in
     let w = ao_words s (length area) h in
     omega arith
 
-pub blank_sized : (d : Segment) (area : List ℕ) (s : Sending) → Fits d → length area % 4 ≡ 0 → length_in_header d.ip (with_ao d area s (no_code s)) ≤ 65535 → Sized (with_ao d area s (no_code s))
+pub blank_sized : (d : Segment) (area : List ℕ) (s : Sending) → Fits d → length area % 4 ≡ 0 → length_in_header d.ip (with_ao d area s (no_mac s)) ≤ 65535 → Sized (with_ao d area s (no_mac s))
 blank_sized d area s f w whole =
-    let k = relaid_keeps d (area ++ ao_bytes s (no_code s)) in record {
-      total = told_total d.ip (with_ao d area s (no_code s)) whole;
+    let k = relaid_keeps d (area ++ written_ao s (no_mac s)) in record {
+      total = told_total d.ip (with_ao d area s (no_mac s)) whole;
       words = ap (λ (l : List ℕ). length l % 4) k.area_is ∙ ao_area_words s area w;
       reserved = subst (λ (n : ℕ). n < 16) (sym k.reserved) f.reserved;
       sequence = subst (λ (n : ℕ). n < 4294967296) (sym k.sequence) f.sequence;

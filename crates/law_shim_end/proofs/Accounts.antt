@@ -20,14 +20,14 @@ use Rattle.book_endpoint.specs.Verdicts.{Known}
 use Rattle.book_keys.specs.Plans.{mirrored}
 use Rattle.book_keys.specs.Rows.{Row}
 use Rattle.book_endpoint.specs.Arrivals.{heard, numbers_known, arrive}
-use Rattle.book_endpoint.specs.Emissions.{Emission, blank, own_ao, no_mac, sealed}
+use Rattle.book_endpoint.specs.Emissions.{Emission, blank, own_ao, no_mac, sealed, written_ao}
 use Rattle.book_endpoint.specs.States.{EndState}
 use Rattle.book_endpoint.specs.Verdicts.{Finding, key_of, same_master_key}
 use Rattle.book_endpoint.proofs.Passing.{meets}
 use Rattle.book_shim.specs.declared.kept.Kept.{Kept}
 use Rattle.book_shim.specs.Keeping.{Setting}
 use Rattle.book_shim.specs.Relaying.{coming_area, most_mss}
-use Rattle.book_shim.specs.Leaving.{Sealed, ao_bytes, ao_last, no_code, with_ao}
+use Rattle.book_shim.specs.Leaving.{Sealed, ao_last, with_ao}
 use Rattle.book_shim.specs.Arriving.{Opened, known_for, inbound}
 use Rattle.law_shim.specs.Origins.{AgreesWith}
 use Rattle.law_shim.proofs.Meanings.{same_inputs, same_family, fits_sized}
@@ -174,15 +174,15 @@ to_the_end pair events rows now s bytes p all b e sealed_so =
     let given = m.given in
     let sending = m.sending in
     let area = z.area in
-    let spare = with_ao given area sending (no_code sending) in
-    let tail = ao_bytes sending (no_code sending) in
+    let spare = with_ao given area sending (no_mac sending) in
+    let tail = written_ao sending (no_mac sending) in
     let source : given.source ≡ d.source = o.source ∙ sym w.source in
     let destination : given.destination ≡ d.destination = o.destination ∙ sym w.destination in
     let k = relaid_keeps given (area ++ tail) in
     let family = relaid_family given d (area ++ tail) (same_family given.ip d.ip given d source o.fits.ip fd.ip) in
-    let input : mac_input m.number spare (ao_last area sending (no_code sending)) sending.row.with_options ≡ mac_input p.number d passes.ao passes.row.row.with_options =
+    let input : mac_input m.number spare (ao_last area sending (no_mac sending)) sending.row.with_options ≡ mac_input p.number d passes.ao passes.row.row.with_options =
     sym (ap (λ (x : Sealed). x.input) z.sent_is) ∙ same_bytes_tells m.input p.input two.1 ∙ ap (λ (x : Finding). x.input) passes.finding in
-    let same = same_inputs m.number p.number spare d (ao_last area sending (no_code sending)) passes.ao sending.row.with_options passes.row.row.with_options
+    let same = same_inputs m.number p.number spare d (ao_last area sending (no_mac sending)) passes.ao sending.row.with_options passes.row.row.with_options
     family (k.source ∙ source) (k.destination ∙ destination) (sealed_sized given area sending o.fits (fitted_words _ given.area area z.fits) z.whole) (fits_sized d fd) input in
     record {
       segment = d;

@@ -18,12 +18,12 @@ use Rattle.book_keys.specs.Plans.{mirrored}
 use Rattle.book_keys.specs.Rows.{Row}
 use Rattle.book_endpoint.specs.declared.verdict.Verdict.TheVariants.{NoContext as Nothing}
 use Rattle.book_endpoint.specs.Arrivals.{from_peer}
-use Rattle.book_endpoint.specs.Emissions.{Draft, Emission, Emits, emit, resend, sets, written, written_area, written_ip, ao_place, blank, no_mac, own_ao, seal_of, input_of, sealed}
+use Rattle.book_endpoint.specs.Emissions.{Draft, Emission, Emits, emit, resend, sets, written, written_area, written_ip, ao_place, blank, no_mac, own_ao, seal_of, input_of, sealed, written_ao}
 use Rattle.book_endpoint.specs.States.{EndState, own_mss}
 use Rattle.book_endpoint.specs.Verdicts.{Finding, Judgement, judge, segment_number, found_with}
 use Rattle.book_shim.specs.declared.kept.Kept.{Kept}
 use Rattle.book_shim.specs.Keeping.{Setting, is_keyed}
-use Rattle.book_shim.specs.Leaving.{ao_bytes, ao_last}
+use Rattle.book_shim.specs.Leaving.{ao_last}
 use Rattle.book_shim.specs.Relaying.{coming_area, most_mss}
 use Rattle.book_shim.specs.Arriving.{judged_arrival, is_awaited, known_for, handed_on, take_in, take_read}
 use Rattle.law_shim.proofs.Areas.{ao_found}
@@ -40,7 +40,7 @@ abbrev front : Pair → Bool → List ℕ
 front pair true = 2 ∷ 4 ∷ put2 (own_mss pair.local.address) []
 front pair false = []
 
-area_is : (pair : Pair) (syn : Bool) (s : Sending) (m : List ℕ) → written_area pair syn s m ≡ front pair syn ++ ao_bytes s m
+area_is : (pair : Pair) (syn : Bool) (s : Sending) (m : List ℕ) → written_area pair syn s m ≡ front pair syn ++ written_ao s m
 unfolding put2
 area_is pair true s m = refl
 area_is pair false s m = refl
@@ -53,7 +53,7 @@ place_is pair false = refl
 ao_is : (pair : Pair) (out : Draft) (s : Sending) (m : List ℕ) → own_ao out s m ≡ ao_last (front pair (sets out.flags SYN)) s m
 ao_is pair out s m = ap (λ (n : ℕ). let a : Ao = record { key_id = s.key_id; rnext_key_id = s.rnext_key_id; mac = m; place = n } in a) (place_is pair (sets out.flags SYN))
 
-found_last : (pair : Pair) (syn : Bool) (s : Sending) (m : List ℕ) → find_ao (front pair syn ++ ao_bytes s m) ≡ One (ao_last (front pair syn) s m)
+found_last : (pair : Pair) (syn : Bool) (s : Sending) (m : List ℕ) → find_ao (front pair syn ++ written_ao s m) ≡ One (ao_last (front pair syn) s m)
 unfolding put2
 found_last pair true s m =
     let o : Plain = record { kind = 2; body = put2 (own_mss pair.local.address) [] } in
@@ -86,9 +86,9 @@ covers_same : (pair : Pair) (out : Draft) (s : Sending) (one two : List ℕ) (fl
     → covered flag (written_area pair (sets out.flags SYN) s one) (own_ao out s one) ≡ covered flag (written_area pair (sets out.flags SYN) s two) (own_ao out s two)
 covers_same pair out s one two flag e =
     let syn = sets out.flags SYN in
-    ap (λ (l : List ℕ). covered flag l (own_ao out s one)) (area_is pair syn s one) ∙ ap (λ (a : Ao). covered flag (front pair syn ++ ao_bytes s one) a) (ao_is pair out s one)
+    ap (λ (l : List ℕ). covered flag l (own_ao out s one)) (area_is pair syn s one) ∙ ap (λ (a : Ao). covered flag (front pair syn ++ written_ao s one) a) (ao_is pair out s one)
     ∙ (covered_same flag (front pair syn) s one two e
-    ∙ sym (ap (λ (l : List ℕ). covered flag l (own_ao out s two)) (area_is pair syn s two) ∙ ap (λ (a : Ao). covered flag (front pair syn ++ ao_bytes s two) a) (ao_is pair out s two)))
+    ∙ sym (ap (λ (l : List ℕ). covered flag l (own_ao out s two)) (area_is pair syn s two) ∙ ap (λ (a : Ao). covered flag (front pair syn ++ written_ao s two) a) (ao_is pair out s two)))
 
 same_input : (pair : Pair) (s : EndState) (out : Draft) (sending : Sending) (m : List ℕ) (n : ℕ) (flag : Bool) → length m ≡ mac_length_of sending.row.algorithm
     → mac_input n (finished (written pair s out sending m)) (own_ao out sending m) flag ≡ mac_input n (blank pair s out sending) (own_ao out sending (no_mac sending)) flag

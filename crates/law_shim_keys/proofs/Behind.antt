@@ -13,7 +13,7 @@ use Rattle.book_macs.specs.Contexts.{context_of}
 use Rattle.book_keys.specs.Coordination.{choose}
 use Rattle.book_endpoint.specs.States.{number_limit}
 use Rattle.book_endpoint.specs.Verdicts.{segment_number}
-use Rattle.book_endpoint.specs.Emissions.{ao_length}
+use Rattle.book_endpoint.specs.Emissions.{ao_length, no_mac}
 use Rattle.book_shim.specs.declared.kept.Isns.{Isns}
 use Rattle.book_shim.specs.declared.kept.Kept.{Kept}
 use Rattle.book_shim.specs.declared.refusal.Unsent.{Unsent}
@@ -21,7 +21,7 @@ use Rattle.book_shim.specs.declared.refusal.Unsent.TheVariants.{Foreign, Unkeyed
 use Rattle.book_shim.specs.Keeping.{Setting, demand, own_isn, peer_isn, is_keyed, is_the_number, are_isns, is_opening_syn, answered_isn, connection_begun}
 use Rattle.book_shim.specs.Relaying.{fitted, length_in_header}
 use Rattle.book_shim.specs.Saving.{resumed, saved_stretch}
-use Rattle.book_shim.specs.Leaving.{Sealed, signs, opening, accepting, entered, resets, as_late, kept_for, past_sent, send_within, send_sealed, send_read, outbound, with_ao, no_code}
+use Rattle.book_shim.specs.Leaving.{Sealed, signs, opening, accepting, entered, resets, as_late, kept_for, past_sent, send_within, send_sealed, send_read, outbound, with_ao}
 use Rattle.law_shim.proofs.Opening.{meant_near}
 use Rattle.law_shim_keys.specs.Restoring.{with_numbers, IsBehind, IsQuiet, IsClose, AreSentAlike}
 
@@ -153,7 +153,7 @@ within_alike here pair g d s h b close =
     (λ n. alike_demand (nat_le (n + segment_length d) number_limit) Range _ _
     (λ u. alike_option (choose g.current here.rows pair here.now) (choose g.current here.rows pair here.now) NoKey _ _ refl
     (λ s. alike_option (fitted (40 - ao_length s) d.area) (fitted (40 - ao_length s) d.area) NoRoom _ _ refl
-    (λ area. alike_demand (nat_le (length_in_header d.ip (with_ao d area s (no_code s))) 65535) TooLong _ _
+    (λ area. alike_demand (nat_le (length_in_header d.ip (with_ao d area s (no_mac s))) 65535) TooLong _ _
     (λ u. (refl, past_behind g r.sent r.heard b d n (Some s.number))))))))))
 
 sent_close : (g : Kept) (d : Segment) → Close g.sent d → Close (entered g d).sent d

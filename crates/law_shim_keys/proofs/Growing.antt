@@ -7,7 +7,7 @@ use Rattle.book_segments.proofs.Fields.{eqb_is}
 use Rattle.book_shim.specs.declared.kept.Isns.{Isns}
 use Rattle.book_shim.specs.declared.kept.Kept.{Kept}
 use Rattle.book_shim.specs.Keeping.{own_isn, is_the_number, are_isns, is_opening_syn, answered_isn, connection_begun}
-use Rattle.book_shim.specs.Saving.{resumed, is_same_connection, same_row, has_other_key, is_to_save, saved_stretch}
+use Rattle.book_shim.specs.Saving.{resumed, is_same_connection, same_row, is_to_save, saved_stretch}
 use Rattle.book_shim.specs.Leaving.{opening, accepting, entered, resets, past_sent}
 use Rattle.book_shim.specs.Arriving.{answered_anew, joined, admitted, is_of_connection, past_heard}
 use Rattle.law_shim.proofs.Mirrors.{these}
@@ -156,7 +156,7 @@ record Same (c : Isns) (g k : Kept) : Type 0 where
 unsaved : (c : Isns) (g k : Kept) → g.isns ≡ Some c → is_to_save g k ≡ false → Same c g k
 unsaved c g k is e =
     let one = or_none (not (is_same_connection g.isns k.isns)) _ e in
-    let two = or_none (has_other_key g k) _ one.1 in
+    let two = or_none (is_some k.isns && not (same_row g.current k.current)) _ one.1 in
     let three = or_none (not (g.sent / saved_stretch == k.sent / saved_stretch)) (not (g.heard / saved_stretch == k.heard / saved_stretch)) two.1 in
     let same : are_isns k.isns c.own c.peer ≡ true = ap (λ (i : Option Isns). is_same_connection i k.isns) (sym is) ∙ not_false (is_same_connection g.isns k.isns) one.0 in
     let key : not (same_row g.current k.current) ≡ false = ap (λ (i : Option Isns). is_some i && not (same_row g.current k.current)) (sym (isns_are k.isns c.own c.peer same)) ∙ two.0 in

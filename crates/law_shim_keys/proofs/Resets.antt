@@ -12,7 +12,7 @@ use Rattle.book_macs.specs.Contexts.{context, context_of}
 use Rattle.book_keys.specs.Coordination.{choose}
 use Rattle.book_endpoint.specs.States.{number_limit}
 use Rattle.book_endpoint.specs.Verdicts.{Finding, Known, segment_number}
-use Rattle.book_endpoint.specs.Emissions.{ao_length}
+use Rattle.book_endpoint.specs.Emissions.{ao_length, no_mac}
 use Rattle.book_endpoint.proofs.Passing.{meets}
 use Rattle.book_shim.specs.declared.kept.Isns.{Isns}
 use Rattle.book_shim.specs.declared.kept.Kept.{Kept}
@@ -20,7 +20,7 @@ use Rattle.book_shim.specs.declared.refusal.Unsent.{Unsent}
 use Rattle.book_shim.specs.declared.refusal.Unsent.TheVariants.{Unkeyed, Signed, NoContext, Range, NoKey, NoRoom, TooLong}
 use Rattle.book_shim.specs.Keeping.{Setting, demand, own_isn, peer_isn, is_keyed, is_the_number, are_isns, answered_isn, connection_begun}
 use Rattle.book_shim.specs.Relaying.{fitted, length_in_header}
-use Rattle.book_shim.specs.Leaving.{Sealed, signs, entered, resets, kept_for, send_within, with_ao, no_code}
+use Rattle.book_shim.specs.Leaving.{Sealed, signs, entered, resets, kept_for, send_within, with_ao}
 use Rattle.book_shim.specs.Arriving.{Opened, take_in, known_in, known_for, joined, admitted, is_of_connection, handed_on}
 use Rattle.law_shim.proofs.Mirrors.{these}
 use Rattle.law_shim.proofs.Sealing.{sends, takes}
@@ -51,7 +51,7 @@ has_context here pair e d c is =
     (λ n. after_demand (nat_le (n + segment_length d) number_limit) Range _ (λ e. cc)
     (λ u. after_option (choose e.current here.rows pair here.now) NoKey _ (λ e. cc)
     (λ s. after_option (fitted (40 - ao_length s) d.area) NoRoom _ (λ e. cc)
-    (λ area. after_demand (nat_le (length_in_header d.ip (with_ao d area s (no_code s))) 65535) TooLong _ (λ e. cc) (λ u e. cc))))))))
+    (λ area. after_demand (nat_le (length_in_header d.ip (with_ao d area s (no_mac s))) 65535) TooLong _ (λ e. cc) (λ u e. cc))))))))
 
 later_context : (d : Segment) (own peer : ℕ) → has SYN d ≡ false → context_of d (Some own) (Some peer) ≡ Some (context d.source d.destination own peer)
 unfolding context_of

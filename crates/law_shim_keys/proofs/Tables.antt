@@ -27,7 +27,7 @@ use Rattle.book_endpoint.specs.declared.verdict.Verdict.{Verdict}
 use Rattle.book_endpoint.specs.declared.verdict.Verdict.TheVariants.{Pass, NoAo, TwoAo, WithMd5, NoContext as Nothing, MacLength, Range as Far, BadMac, Expired, NoTuple}
 use Rattle.book_endpoint.specs.States.{number_limit}
 use Rattle.book_endpoint.specs.Verdicts.{Judgement, Known, judge, require, segment_number, mac_of, found_with}
-use Rattle.book_endpoint.specs.Emissions.{ao_length}
+use Rattle.book_endpoint.specs.Emissions.{ao_length, written_ao, no_mac}
 use Rattle.book_shim.specs.declared.kept.Kept.{Kept}
 use Rattle.book_shim.specs.declared.refusal.Unsent.{Unsent}
 use Rattle.book_shim.specs.declared.refusal.Unsent.TheVariants.{Foreign, Unkeyed, Signed, NoContext, Range, NoKey, NoRoom, TooLong}
@@ -35,7 +35,7 @@ use Rattle.book_shim.specs.declared.refusal.Untaken.{Untaken}
 use Rattle.book_shim.specs.declared.refusal.Untaken.TheVariants.{Unkeyed as NoRow, Checksum, Refused}
 use Rattle.book_shim.specs.Keeping.{Setting, demand, own_isn, peer_isn, is_keyed}
 use Rattle.book_shim.specs.Relaying.{fitted, length_in_header}
-use Rattle.book_shim.specs.Leaving.{Sealed, signs, entered, kept_for, send_within, send_sealed, send_read, with_ao, no_code, ao_bytes, ao_last, code_for, input_for}
+use Rattle.book_shim.specs.Leaving.{Sealed, signs, entered, kept_for, send_within, send_sealed, send_read, with_ao, ao_last, code_for, input_for}
 use Rattle.book_shim.specs.Arriving.{Opened, as_taken, judged_arrival, is_awaited, known_for, handed_on, take_in}
 use Rattle.law_shim.proofs.Returning.{comes_out, fitted_found}
 use Rattle.law_shim.proofs.Sealing.{is_fitted, relaid_keeps, sends as sent_so}
@@ -157,8 +157,8 @@ ao_in here pair g d m h fits =
     let z = sent_so here pair g d m h in
     let s = m.sending in
     let code = code_for s m.context (input_for d z.area s m.number) in
-    let k = relaid_keeps d (z.area ++ ao_bytes s code) in
-    let area_is : m.segment.area ≡ z.area ++ ao_bytes s code = ap (λ (x : Sealed). x.segment.area) z.sent_is ∙ k.area_is in
+    let k = relaid_keeps d (z.area ++ written_ao s code) in
+    let area_is : m.segment.area ≡ z.area ++ written_ao s code = ap (λ (x : Sealed). x.segment.area) z.sent_is ∙ k.area_is in
     (ao_last z.area s code, ap find_ao area_is ∙ fitted_found d z.area s code fits z.plain (is_fitted (40 - ao_length s) d.area z.area z.fits), refl)
 
 taken_under : (plan : Plan) (pair : Pair) (sending here : Setting) (kept : Kept) (d : Segment) (m : Sealed) → AlignedFrom sending.rows here.rows pair plan.lead plan.lag → IsValid here.rows
@@ -231,7 +231,7 @@ sealed_key here pair e d may =
     (λ n. after_demand (nat_le (n + segment_length d) number_limit) Range _ refl
     (λ u. after_choice (choose e.current here.rows pair here.now) _ some
     (λ s. after_option (fitted (40 - ao_length s) d.area) NoRoom _ refl
-    (λ area. after_demand (nat_le (length_in_header d.ip (with_ao d area s (no_code s))) 65535) TooLong _ refl (λ u. refl))))))))
+    (λ area. after_demand (nat_le (length_in_header d.ip (with_ao d area s (no_mac s))) 65535) TooLong _ refl (λ u. refl))))))))
 
 ours_if : (b : Bool) (r : Result Sealed Unsent) → lacks_key r ≡ false → lacks_key (if b then r else Err Foreign) ≡ false
 ours_if true r e = e

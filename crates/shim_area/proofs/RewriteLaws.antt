@@ -7,17 +7,18 @@ use Rattle.book_segments.specs.Bytes.{put2}
 use Rattle.book_segments.specs.Areas.{spell_option, spell_options, ending, Area}
 use Rattle.book_segments.specs.Options.{Opt, Plain, plains, listed, options_of, AreListed}
 use Rattle.book_segments.proofs.AreaLaws.{area_of}
-use Rattle.book_shim.specs.Relaying.{spelled, coming, with_mss, lowered, written_by, in_words, rewritten, packed_in, fitted_from}
+use Rattle.book_shim.specs.Relaying.{spelled, coming, with_mss, lowered, in_words, rewritten, packed_in, fitted_from}
 use Rattle.shim_area.specs.Puts.{Puts}
+use Rattle.std.specs.Prelude.{flat_map}
 
-pub one_more : (w : Plain → List ℕ) (area new all : List ℕ) (items rest : List Plain) (o : Plain) → items ≡ o ∷ rest → new ≡ area ++ w o → area ++ written_by w items ≡ all → new ++ written_by w rest ≡ all
+pub one_more : (w : Plain → List ℕ) (area new all : List ℕ) (items rest : List Plain) (o : Plain) → items ≡ o ∷ rest → new ≡ area ++ w o → area ++ flat_map w items ≡ all → new ++ flat_map w rest ≡ all
 one_more w area new all items rest o is put h =
-    ap (λ (l : List ℕ). l ++ written_by w rest) put ∙ append_assoc area (w o) (written_by w rest) ∙ sym (ap (λ (l : List Plain). area ++ written_by w l) is) ∙ h
+    ap (λ (l : List ℕ). l ++ flat_map w rest) put ∙ append_assoc area (w o) (flat_map w rest) ∙ sym (ap (λ (l : List Plain). area ++ flat_map w l) is) ∙ h
 
-pub all_done : (w : Plain → List ℕ) (area all : List ℕ) (items : List Plain) → items ≡ [] → area ++ written_by w items ≡ all → area ≡ all
-all_done w area all items is h = sym (append-nil area) ∙ sym (ap (λ (l : List Plain). area ++ written_by w l) is) ∙ h
+pub all_done : (w : Plain → List ℕ) (area all : List ℕ) (items : List Plain) → items ≡ [] → area ++ flat_map w items ≡ all → area ≡ all
+all_done w area all items is h = sym (append-nil area) ∙ sym (ap (λ (l : List Plain). area ++ flat_map w l) is) ∙ h
 
-pub is_rewritten : (w : Plain → List ℕ) (options area new : List ℕ) (items : List Plain) → items ≡ [] → area ++ written_by w items ≡ written_by w (plains (listed (options_of options))) → new ≡ in_words area
+pub is_rewritten : (w : Plain → List ℕ) (options area new : List ℕ) (items : List Plain) → items ≡ [] → area ++ flat_map w items ≡ flat_map w (plains (listed (options_of options))) → new ≡ in_words area
     → new ≡ rewritten w options
 unfolding rewritten
 is_rewritten w options area new items is h f = f ∙ ap in_words (all_done w area _ items is h)
@@ -25,14 +26,14 @@ is_rewritten w options area new items is h f = f ∙ ap in_words (all_done w are
 words_longer : (xs : List ℕ) → length xs ≤ length (in_words xs)
 words_longer xs = let a = length-append xs (replicate {A = ℕ} ((4 - length xs % 4) % 4) 1) in omega arith
 
-pub too_long : (w : Plain → List ℕ) (options area : List ℕ) (items rest : List Plain) (o : Plain) → items ≡ o ∷ rest → area ++ written_by w items ≡ written_by w (plains (listed (options_of options)))
+pub too_long : (w : Plain → List ℕ) (options area : List ℕ) (items rest : List Plain) (o : Plain) → items ≡ o ∷ rest → area ++ flat_map w items ≡ flat_map w (plains (listed (options_of options)))
     → 40 < length area + length (w o) → 40 < length (rewritten w options)
 unfolding rewritten
 too_long w options area items rest o is h long =
-    let all = written_by w (plains (listed (options_of options))) in
-    let e : length (area ++ (w o ++ written_by w rest)) ≡ length all = ap (λ (l : List ℕ). length l) (sym (ap (λ (l : List Plain). area ++ written_by w l) is) ∙ h) in
-    let a = length-append area (w o ++ written_by w rest) in
-    let b = length-append (w o) (written_by w rest) in
+    let all = flat_map w (plains (listed (options_of options))) in
+    let e : length (area ++ (w o ++ flat_map w rest)) ≡ length all = ap (λ (l : List ℕ). length l) (sym (ap (λ (l : List Plain). area ++ flat_map w l) is) ∙ h) in
+    let a = length-append area (w o ++ flat_map w rest) in
+    let b = length-append (w o) (flat_map w rest) in
     let c = words_longer all in
     omega arith
 
@@ -68,11 +69,11 @@ come_short false most o = with_short most o
 one_short : (most : Option ℕ) (o : Plain) → length (coming most o) ≤ length (spelled o)
 one_short most o = come_short ((o.kind == 0) || (o.kind == 29)) most o
 
-all_short : (most : Option ℕ) (list : List Opt) → length (written_by (coming most) (plains list)) ≤ length (spell_options list)
+all_short : (most : Option ℕ) (list : List Opt) → length (flat_map (coming most) (plains list)) ≤ length (spell_options list)
 all_short most [] = omega arith
 all_short most (o ∷ os) =
     let p : Plain = record { kind = o.kind; body = o.body } in
-    let a = length-append (coming most p) (written_by (coming most) (plains os)) in
+    let a = length-append (coming most p) (flat_map (coming most) (plains os)) in
     let b = length-append (spell_option o) (spell_options os) in
     let c = one_short most p in
     let d = all_short most os in
@@ -82,36 +83,36 @@ plains_append : (xs ys : List Opt) → plains (xs ++ ys) ≡ plains xs ++ plains
 plains_append [] ys = refl
 plains_append (x ∷ xs) ys = ap (λ (l : List Plain). record { kind = x.kind; body = x.body } ∷ l) (plains_append xs ys)
 
-written_append : (w : Plain → List ℕ) (xs ys : List Plain) → written_by w (xs ++ ys) ≡ written_by w xs ++ written_by w ys
+written_append : (w : Plain → List ℕ) (xs ys : List Plain) → flat_map w (xs ++ ys) ≡ flat_map w xs ++ flat_map w ys
 written_append w [] ys = refl
-written_append w (x ∷ xs) ys = ap (λ (l : List ℕ). w x ++ l) (written_append w xs ys) ∙ sym (append_assoc (w x) (written_by w xs) (written_by w ys))
+written_append w (x ∷ xs) ys = ap (λ (l : List ℕ). w x ++ l) (written_append w xs ys) ∙ sym (append_assoc (w x) (flat_map w xs) (flat_map w ys))
 
-area_short : (most : Option ℕ) (list : List Opt) (tail bytes : List ℕ) → Area list tail bytes → length (written_by (coming most) (plains list)) ≤ length bytes
+area_short : (most : Option ℕ) (list : List Opt) (tail bytes : List ℕ) → Area list tail bytes → length (flat_map (coming most) (plains list)) ≤ length bytes
 area_short most list tail bytes (inl a) = let e = ap (λ (l : List ℕ). length l) a.2 in let s = all_short most list in omega arith
 area_short most list tail bytes (inr b) =
     let e : Opt = ending (0 + length (spell_options b.0)) in
-    let is : written_by (coming most) (plains list) ≡ written_by (coming most) (plains b.0) ++ [] =
-    ap (λ (l : List Opt). written_by (coming most) (plains l)) b.2 ∙ ap (written_by (coming most)) (plains_append b.0 (e ∷ [])) ∙ written_append (coming most) (plains b.0) (plains (e ∷ [])) in
-    let long = ap (λ (l : List ℕ). length l) (is ∙ append-nil (written_by (coming most) (plains b.0))) in
+    let is : flat_map (coming most) (plains list) ≡ flat_map (coming most) (plains b.0) ++ [] =
+    ap (λ (l : List Opt). flat_map (coming most) (plains l)) b.2 ∙ ap (flat_map (coming most)) (plains_append b.0 (e ∷ [])) ∙ written_append (coming most) (plains b.0) (plains (e ∷ [])) in
+    let long = ap (λ (l : List ℕ). length l) (is ∙ append-nil (flat_map (coming most) (plains b.0))) in
     let bytes_long = ap (λ (l : List ℕ). length l) b.3 in
     let split = length-append (spell_options b.0) (0 ∷ tail) in
     let s = all_short most b.0 in
     omega arith
 
-pub comes_short : (most : Option ℕ) (area : List ℕ) → AreListed (options_of area) → length area ≤ 40 → length (written_by (coming most) (plains (listed (options_of area)))) ≤ 40
+pub comes_short : (most : Option ℕ) (area : List ℕ) → AreListed (options_of area) → length area ≤ 40 → length (flat_map (coming most) (plains (listed (options_of area)))) ≤ 40
 comes_short most area l h = let a = area_of area l in let s = area_short most (listed (options_of area)) a.0 area a.1 in omega arith
 
 -- so each of them has room
 pub has_room : (most : Option ℕ) (options area new : List ℕ) (items rest : List Plain) (o : Plain) (done : Bool) → AreListed (options_of options) → length options ≤ 40 → items ≡ o ∷ rest
-    → area ++ written_by (coming most) items ≡ written_by (coming most) (plains (listed (options_of options))) → Puts area (coming most o) new done
-    → new ++ written_by (coming most) rest ≡ written_by (coming most) (plains (listed (options_of options)))
+    → area ++ flat_map (coming most) items ≡ flat_map (coming most) (plains (listed (options_of options))) → Puts area (coming most o) new done
+    → new ++ flat_map (coming most) rest ≡ flat_map (coming most) (plains (listed (options_of options)))
 has_room most options area new items rest o true l m is h put = one_more (coming most) area new _ items rest o is put h
 has_room most options area new items rest o false l m is h put =
     let short = comes_short most options l m in
-    let e : length (area ++ (coming most o ++ written_by (coming most) rest)) ≡ length (written_by (coming most) (plains (listed (options_of options)))) =
-    ap (λ (l : List ℕ). length l) (sym (ap (λ (l : List Plain). area ++ written_by (coming most) l) is) ∙ h) in
-    let a = length-append area (coming most o ++ written_by (coming most) rest) in
-    let b = length-append (coming most o) (written_by (coming most) rest) in
+    let e : length (area ++ (coming most o ++ flat_map (coming most) rest)) ≡ length (flat_map (coming most) (plains (listed (options_of options)))) =
+    ap (λ (l : List ℕ). length l) (sym (ap (λ (l : List Plain). area ++ flat_map (coming most) l) is) ∙ h) in
+    let a = length-append area (coming most o ++ flat_map (coming most) rest) in
+    let b = length-append (coming most o) (flat_map (coming most) rest) in
     absurd (omega arith)
 
 -- ---- as many blocks as have room

@@ -1,7 +1,7 @@
 -- A datagram that is laid out again, part by part.
-use Rattle.std.proofs.Common.{◌≡◌, ℕ, zero, suc, ◌+◌, ◌-◌, ◌*◌, ◌/◌, ◌%◌, ◌<◌, ◌≤◌, Bool, true, false, List, [], ◌∷◌, ◌++◌, length, take, drop, refl, sym, ap, subst, ◌∙◌, arith, append_assoc, eq-eqb}
+use Rattle.std.proofs.Common.{◌≡◌, ℕ, zero, suc, ◌+◌, ◌-◌, ◌*◌, ◌/◌, ◌%◌, ◌<◌, ◌≤◌, Bool, true, false, List, [], ◌∷◌, ◌++◌, length, take, drop, refl, sym, ap, ◌∙◌, arith, append_assoc, eq-eqb}
 use Rattle.std.specs.Prelude.{slice_index, slice_set, ◌==◌, if◌then◌else◌}
-use Rattle.std.proofs.lemmas.List.{length-append, length-drop, take_at, drop_at, append-nil, take-append-drop, take_all}
+use Rattle.std.proofs.lemmas.List.{length-append, length-drop, take_at, take-append-drop, take_all}
 use Rattle.std.proofs.lemmas.Bool.{ne_eqb}
 use Rattle.book_base.specs.declared.address.Address.{Address}
 use Rattle.book_base.specs.declared.address.Address.TheVariants.{V4, V6}
@@ -9,7 +9,7 @@ use Rattle.book_base.specs.declared.address.Socket.{Socket}
 use Rattle.book_segments.specs.Bytes.{put2, put4}
 use Rattle.book_segments.specs.Sockets.{octets}
 use Rattle.book_segments.specs.Segments.{IpHeader, Ipv4, Ipv6, Segment, words_sum, sums, complement_of, checksum_of, tcp_length, pseudo, header, tcp_bytes, spell_as, spell, reading, Read}
-use Rattle.book_segments.specs.Spelling.{AreBytes, IsV4, IsV6, FitsV4, FitsIp, Fits, with_sum, with_checksum, addresses_in}
+use Rattle.book_segments.specs.Spelling.{AreBytes, IsV4, IsV6, FitsIp, Fits, with_sum, with_checksum, addresses_in}
 use Rattle.book_segments.proofs.Folding.{complement_by}
 use Rattle.book_segments.proofs.SumLaws.{words_append, words_pseudo, complement_fits, complement_completes, is_right, spell_with}
 use Rattle.book_segments.proofs.SpellLaws.{read_stands}
@@ -138,7 +138,7 @@ summed_long : (i : IpHeader) (d : Segment) → ip_long (summed i d) ≡ ip_long 
 summed_long (Ipv4 service identification flags ttl checksum options) d = refl
 summed_long (Ipv6 class_flow hops) d = refl
 
-tcp_long : (d : Segment) (c : ℕ) → length (tcp_bytes d c) ≡ tcp_length d
+pub tcp_long : (d : Segment) (c : ℕ) → length (tcp_bytes d c) ≡ tcp_length d
 unfolding tcp_bytes header put2 put4
 tcp_long d c = omega (arith, length-append d.area d.payload)
 

@@ -1,1 +1,2 @@
 pub mod LaidLaws
+pub mod SumLaws

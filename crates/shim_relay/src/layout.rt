@@ -2,15 +2,20 @@
 ghost use Rattle.std.specs.Prelude.{◌≡◌, ℕ, ◌+◌, ◌/◌, ◌==◌, ◌≤◌, ◌<◌, ◌++◌, true, false, length, take, drop, slice_index};
 ghost use Rattle.book_segments.specs.Segments.{reading, Read, spell};
 ghost use Rattle.book_shim.specs.Relaying.{with_area, relaid, length_in_header, headers_length};
+ghost use Rattle.book_shim.specs.Leaving.{as_sent};
 ghost use Rattle.shim_relay.specs.Starts.{ip_again};
 ghost use Rattle.shim_relay.specs.Laying.{laid};
 
 use crate::parts::put;
 use crate::starts::{header_length, ipv4_checksum, ipv4_start, ipv6_start, is_ipv4, tcp_start};
+use crate::sums::replace;
 use tcp_segment::{Datagram, set_checksum};
 
 /// How many bytes a TCP header has without options (RFC 9293, section 3.1).
 const TCP_HEADER: usize = 20;
+
+/// Where the checksum stands in a TCP header (RFC 9293, section 3.1).
+const CHECKSUM: usize = 16;
 
 /// Where the addresses begin in an IPv4 header (RFC 791, section 3.1).
 const V4_ADDRESSES: usize = 12;
@@ -101,5 +106,21 @@ pub fn relay(out: &mut [u8], bytes: &[u8], datagram: &Datagram<'_>, area: &[u8])
 {
     let end = lay_out(out, bytes, datagram, area);
     set_checksum(out, header_length(bytes), end);
+    end
+}
+
+/// Lays a datagram out with these options in place of its own, as `relay` does; a TCP checksum of 0000
+/// stands there as ffff, which is the same number.
+pub fn relay_sent(out: &mut [u8], bytes: &[u8], datagram: &Datagram<'_>, area: &[u8]) -> usize
+    requires read { reading bytes.now ≡ Read datagram.now }
+    requires most { length area.now ≤ 40 }
+    requires whole { length_in_header datagram.now.ip (with_area datagram.now area.now) ≤ 65535 }
+    requires room { length (spell datagram.now) + length area.now ≤ length out.old + length datagram.now.area }
+    ensures end { result ≡ length (spell (as_sent (relaid datagram.now area.now))) }
+    ensures sent { out.new ≡ spell (as_sent (relaid datagram.now area.now)) ++ drop result out.old }
+{
+    let end = relay(out, bytes, datagram, area);
+    let header = header_length(bytes);
+    replace(out, header + CHECKSUM);
     end
 }

@@ -5,5 +5,6 @@
 mod layout;
 mod parts;
 mod starts;
+mod sums;
 
-pub use layout::{lay_out, least_headers, length_told, relay};
+pub use layout::{lay_out, least_headers, length_told, relay, relay_sent};

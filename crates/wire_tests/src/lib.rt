@@ -8,6 +8,8 @@ mod of_bgp_messages;
 #[cfg(test)]
 mod of_capture_reader;
 #[cfg(test)]
+mod of_shim_icmp;
+#[cfg(test)]
 mod of_tcp_options;
 #[cfg(test)]
 mod of_tcp_segment;

@@ -124,7 +124,7 @@ returns-clause-sent g c = λ mtu.
     let number : c.in-Ok-planned.plan.sending.row ≡ q.ready.s.number = ap (λ (x : Answer). x.row) q.ready.sending_is in
     let past : c.past_sent-sent.result ≡ past_sent (entered c.args.before.now c.in-Ok.datagram) c.in-Ok.datagram c.in-Ok-planned.plan.number = c.past_sent-sent.ensures ∙ ap (λ (k : Kept). past_sent k c.in-Ok.datagram c.in-Ok-planned.plan.number) q.kept_is in
     record {
-      sealed = sealed_with (entered c.args.before.now c.in-Ok.datagram) c.in-Ok.datagram c.in-Ok-planned.plan.fitted (record { sending = q.ready.s; context = bytes_of c.in-Ok-planned.plan.context; number = c.in-Ok-planned.plan.number });
+      sealed = sealed_with (entered c.args.before.now c.in-Ok.datagram) c.in-Ok.datagram c.in-Ok-planned.plan.fitted q.ready.s (bytes_of c.in-Ok-planned.plan.context) c.in-Ok-planned.plan.number;
       is = own (record { rows = c.args.table.now.rows; now = c.args.now; mtu = mtu }) c.args.pair.now c.args.before.now c.args.bytes.now c.in-Ok.datagram read source destination ∙ q.sent_is mtu;
       kept_is = ap (λ (k : Kept). let x : Kept = record k { current = Some c.in-Ok-planned.plan.sending.row } in x) past ∙ ap (λ (n : ℕ). let x : Kept = record (past_sent (entered c.args.before.now c.in-Ok.datagram) c.in-Ok.datagram c.in-Ok-planned.plan.number) { current = Some n } in x) number;
       written = c.seal-end.ensures.written q.ready;
@@ -138,7 +138,7 @@ returns-clause-counted g c = λ mtu m m-is.
     let q = c.in-Ok-planned.ensures.planned in
     let same = sym (own (record { rows = c.args.table.now.rows; now = c.args.now; mtu = mtu }) c.args.pair.now c.args.before.now c.args.bytes.now c.in-Ok.datagram read source destination ∙ q.sent_is mtu) ∙ m-is in
     let number : c.in-Ok-planned.plan.sending.row ≡ q.ready.s.number = ap (λ (x : Answer). x.row) q.ready.sending_is in
-    costs c.args.before.now c.in-Ok.datagram c.in-Ok-planned.plan.kept c.in-Ok-planned.plan.fitted (record { sending = q.ready.s; context = bytes_of c.in-Ok-planned.plan.context; number = c.in-Ok-planned.plan.number }) m c.args.keys.now c.renew.new.keys c.in-Ok-planned.plan.sending.row c.args.steps.now c.seal-end.new.steps same number q.kept_is c.renew.ensures.keys c.seal-end.ensures.counted
+    costs c.args.before.now c.in-Ok.datagram c.in-Ok-planned.plan.kept c.in-Ok-planned.plan.fitted q.ready.s (bytes_of c.in-Ok-planned.plan.context) c.in-Ok-planned.plan.number m c.args.keys.now c.renew.new.keys c.in-Ok-planned.plan.sending.row c.args.steps.now c.seal-end.new.steps same number q.kept_is c.renew.ensures.keys c.seal-end.ensures.counted
 
 pub returns-clause-most : goal.returns-clause-most
 returns-clause-most g c =

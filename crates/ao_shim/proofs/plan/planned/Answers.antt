@@ -10,11 +10,11 @@ use Rattle.book_macs.specs.Contexts.{context_of, bytes_of}
 use Rattle.book_keys.specs.Coordination.{choose}
 use Rattle.book_endpoint.specs.States.{number_limit}
 use Rattle.book_endpoint.specs.Verdicts.{segment_number}
-use Rattle.book_endpoint.specs.Emissions.{ao_length}
+use Rattle.book_endpoint.specs.Emissions.{ao_length, written_ao, no_mac}
 use Rattle.book_shim.specs.declared.kept.Kept.{Kept}
 use Rattle.book_shim.specs.Keeping.{own_isn, peer_isn}
 use Rattle.book_shim.specs.Relaying.{fitted, length_in_header, with_area}
-use Rattle.book_shim.specs.Leaving.{signs, entered, kept_for, ao_bytes, no_code, with_ao}
+use Rattle.book_shim.specs.Leaving.{signs, entered, kept_for, with_ao}
 use Rattle.key_coordination.specs.declared.choice.Sending.{Sending as Answer}
 use Rattle.key_coordination.specs.Sendings.{told}
 use Rattle.shim_relay.proofs.LaidLaws.{relaid_told}
@@ -158,8 +158,8 @@ returns-then-length_told-gt-MOST-clause-refused c =
     let mac-length : c.mac_length_of-mac_length.result ≡ mac_length_of s.s.row.algorithm = c.mac_length_of-mac_length.ensures s.s.row s.row_is in
     let fit : c.fitted.result ≡ fitted (40 - ao_length s.s) c.args.datagram.now.area = c.fitted.ensures ∙ (ap (λ (n : ℕ). fitted (40 - (4 + n)) c.options-options.result) mac-length ∙ ap (fitted (40 - ao_length s.s)) opt) in
     let fit-is : fitted (40 - ao_length s.s) c.args.datagram.now.area ≡ Some c.in-Some-fitted.fitted = sym fit ∙ c.in-Some-fitted.is in
-    let blank : c.as_slice.result.now ≡ c.in-Some-fitted.fitted ++ ao_bytes s.s (no_code s.s) = c.as_slice.ensures.bytes ∙ (c.with_ao-blank.ensures ∙ (ap (λ (l : List ℕ). c.in-Some-fitted.fitted ++ ao_after c.in-Some-chosen.sending.key_id c.in-Some-chosen.sending.rnext l) c.zeros.ensures ∙ blank_is c.in-Some-fitted.fitted s.s c.in-Some-chosen.sending.key_id c.in-Some-chosen.sending.rnext c.mac_length_of-mac_length.result (ap (λ (x : Answer). x.key_id) s.told_is) (ap (λ (x : Answer). x.rnext) s.told_is) mac-length)) in
-    let whole : c.length_told.result ≡ length_in_header c.args.datagram.now.ip (with_ao c.args.datagram.now c.in-Some-fitted.fitted s.s (no_code s.s)) = c.length_told.ensures ∙ (ap (λ (l : List ℕ). length_in_header c.args.datagram.now.ip (with_area c.args.datagram.now l)) blank ∙ sym (relaid_told c.args.datagram.now.ip c.args.datagram.now (c.in-Some-fitted.fitted ++ ao_bytes s.s (no_code s.s)))) in
+    let blank : c.as_slice.result.now ≡ c.in-Some-fitted.fitted ++ written_ao s.s (no_mac s.s) = c.as_slice.ensures.bytes ∙ (c.with_ao-blank.ensures ∙ (ap (λ (l : List ℕ). c.in-Some-fitted.fitted ++ ao_after c.in-Some-chosen.sending.key_id c.in-Some-chosen.sending.rnext l) c.zeros.ensures ∙ blank_is c.in-Some-fitted.fitted s.s c.in-Some-chosen.sending.key_id c.in-Some-chosen.sending.rnext c.mac_length_of-mac_length.result (ap (λ (x : Answer). x.key_id) s.told_is) (ap (λ (x : Answer). x.rnext) s.told_is) mac-length)) in
+    let whole : c.length_told.result ≡ length_in_header c.args.datagram.now.ip (with_ao c.args.datagram.now c.in-Some-fitted.fitted s.s (no_mac s.s)) = c.length_told.ensures ∙ (ap (λ (l : List ℕ). length_in_header c.args.datagram.now.ip (with_area c.args.datagram.now l)) blank ∙ sym (relaid_told c.args.datagram.now.ip c.args.datagram.now (c.in-Some-fitted.fitted ++ written_ao s.s (no_mac s.s)))) in
     let more = c.if-length_told-gt-MOST.true in
     too_long (record { rows = c.args.table.now.rows; now = c.args.now; mtu = mtu }) c.args.pair.now (entered c.args.before.now c.args.datagram.now) c.args.datagram.now (bytes_of c.in-Some.context) c.in-Some-number_of.number s.s c.in-Some-fitted.fitted c.requires.keyed plain context-is number-is ends s.is fit-is (ap (λ (n : ℕ). nat_le n 65535) (sym whole) ∙ gt_told c.length_told.result 65535 (omega arith))
 
@@ -179,8 +179,8 @@ returns-clause-planned c =
     let mac-length : c.mac_length_of-mac_length.result ≡ mac_length_of s.s.row.algorithm = c.mac_length_of-mac_length.ensures s.s.row s.row_is in
     let fit : c.fitted.result ≡ fitted (40 - ao_length s.s) c.args.datagram.now.area = c.fitted.ensures ∙ (ap (λ (n : ℕ). fitted (40 - (4 + n)) c.options-options.result) mac-length ∙ ap (fitted (40 - ao_length s.s)) opt) in
     let fit-is : fitted (40 - ao_length s.s) c.args.datagram.now.area ≡ Some c.in-Some-fitted.fitted = sym fit ∙ c.in-Some-fitted.is in
-    let blank : c.as_slice.result.now ≡ c.in-Some-fitted.fitted ++ ao_bytes s.s (no_code s.s) = c.as_slice.ensures.bytes ∙ (c.with_ao-blank.ensures ∙ (ap (λ (l : List ℕ). c.in-Some-fitted.fitted ++ ao_after c.in-Some-chosen.sending.key_id c.in-Some-chosen.sending.rnext l) c.zeros.ensures ∙ blank_is c.in-Some-fitted.fitted s.s c.in-Some-chosen.sending.key_id c.in-Some-chosen.sending.rnext c.mac_length_of-mac_length.result (ap (λ (x : Answer). x.key_id) s.told_is) (ap (λ (x : Answer). x.rnext) s.told_is) mac-length)) in
-    let whole : c.length_told.result ≡ length_in_header c.args.datagram.now.ip (with_ao c.args.datagram.now c.in-Some-fitted.fitted s.s (no_code s.s)) = c.length_told.ensures ∙ (ap (λ (l : List ℕ). length_in_header c.args.datagram.now.ip (with_area c.args.datagram.now l)) blank ∙ sym (relaid_told c.args.datagram.now.ip c.args.datagram.now (c.in-Some-fitted.fitted ++ ao_bytes s.s (no_code s.s)))) in
+    let blank : c.as_slice.result.now ≡ c.in-Some-fitted.fitted ++ written_ao s.s (no_mac s.s) = c.as_slice.ensures.bytes ∙ (c.with_ao-blank.ensures ∙ (ap (λ (l : List ℕ). c.in-Some-fitted.fitted ++ ao_after c.in-Some-chosen.sending.key_id c.in-Some-chosen.sending.rnext l) c.zeros.ensures ∙ blank_is c.in-Some-fitted.fitted s.s c.in-Some-chosen.sending.key_id c.in-Some-chosen.sending.rnext c.mac_length_of-mac_length.result (ap (λ (x : Answer). x.key_id) s.told_is) (ap (λ (x : Answer). x.rnext) s.told_is) mac-length)) in
+    let whole : c.length_told.result ≡ length_in_header c.args.datagram.now.ip (with_ao c.args.datagram.now c.in-Some-fitted.fitted s.s (no_mac s.s)) = c.length_told.ensures ∙ (ap (λ (l : List ℕ). length_in_header c.args.datagram.now.ip (with_area c.args.datagram.now l)) blank ∙ sym (relaid_told c.args.datagram.now.ip c.args.datagram.now (c.in-Some-fitted.fitted ++ written_ao s.s (no_mac s.s)))) in
     let less = c.if-length_told-gt-MOST.false in
     record {
       ready = record {

@@ -8,7 +8,7 @@ use Rattle.book_keys.specs.Rows.{Row, acceptable}
 use Rattle.book_keys.proofs.SendingLaws.{chosen}
 use Rattle.book_endpoint.specs.Passing.{Passes}
 use Rattle.book_endpoint.proofs.Passing.{meets}
-use Rattle.book_shim.specs.Leaving.{Sealed, ao_bytes, ao_last, code_for, entered, input_for}
+use Rattle.book_shim.specs.Leaving.{Sealed, ao_last, code_for, entered, input_for}
 use Rattle.book_shim.specs.Arriving.{Opened, known_for}
 use Rattle.book_shim.specs.Relaying.{coming_area, most_mss}
 use Rattle.law_shim.proofs.Returning.{fitted_found}
@@ -17,6 +17,7 @@ use Rattle.law_shim.proofs.Sealing.{is_fitted, relaid_keeps, sends, takes}
 use Rattle.law_relayed.specs.Closed.{IsSigned}
 use Rattle.law_relayed.proofs.Comings.{none_comes}
 use Rattle.law_relayed.proofs.laws.fails_closed.Goals as goal
+use Rattle.book_endpoint.specs.Emissions.{written_ao}
 
 all_rows : (rows : List Row) → AllByRecursion (λ (r : Row). ⊤) rows
 all_rows [] = tt
@@ -28,7 +29,7 @@ returns-clause-leaving c = λ here pair kept d m fits is.
     let u = m.sending in
     let code = code_for u m.context (input_for d s.area u m.number) in
     let Goal : Sealed → Type 0 = λ x. IsSigned here pair x in
-    let k = relaid_keeps d (s.area ++ ao_bytes u code) in
+    let k = relaid_keeps d (s.area ++ written_ao u code) in
     let by = chosen (λ (r : Row). ⊤) (entered kept d).current here.rows pair here.now u (all_rows here.rows) s.chosen in
     subst Goal (sym s.sent_is) (record {
       ao = ao_last s.area u code;

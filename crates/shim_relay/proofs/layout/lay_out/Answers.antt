@@ -1,10 +1,10 @@
-use Rattle.std.proofs.Common.{◌≡◌, ℕ, ◌+◌, ◌≤◌, ◌<◌, List, [], ◌++◌, length, take, drop, ap, subst, sym, refl, ◌∙◌, arith, Bool, true, false}
+use Rattle.std.proofs.Common.{◌≡◌, ℕ, ◌+◌, List, [], ◌++◌, length, take, ap, sym, refl, ◌∙◌, arith, true, false}
 use Rattle.std.specs.Prelude.{slice_index, slice_set, ◌/◌, ◌==◌}
-use Rattle.book_segments.specs.Segments.{Segment, header, spell_as, spell, tcp_length}
+use Rattle.book_segments.specs.Segments.{header, spell_as, tcp_length}
 use Rattle.book_shim.specs.Relaying.{with_area, summed}
 use Rattle.shim_relay.specs.Starts.{ip_again, offset_of}
 use Rattle.shim_relay.specs.Laying.{laid}
-use Rattle.shim_relay.proofs.LaidLaws.{ip_long, Fronts, fronts, not_empty, six_long, four_told, any_told, again_is, tcp_start_is, laid_out, laid_long}
+use Rattle.shim_relay.proofs.LaidLaws.{fronts, not_empty, six_long, four_told, any_told, again_is, tcp_start_is, laid_out, laid_long}
 use Rattle.shim_relay.proofs.layout.lay_out.Goals as goal
 
 pub header_length-header-requires : goal.header_length-header-requires

@@ -1,7 +1,6 @@
-use Rattle.std.proofs.Common.{◌≡◌, ℕ, ◌+◌, [], length, ap, sym, ◌∙◌, arith, true, false}
+use Rattle.std.proofs.Common.{◌≡◌, ℕ, [], ap, sym, ◌∙◌, arith, true, false}
 use Rattle.std.specs.Prelude.{slice_index, ◌/◌, ◌==◌}
-use Rattle.book_segments.specs.Segments.{spell_as, tcp_length}
-use Rattle.book_shim.specs.Relaying.{with_area}
+use Rattle.book_segments.specs.Segments.{spell_as}
 use Rattle.shim_relay.proofs.LaidLaws.{stands, not_empty, first_is, least_four, least_six}
 use Rattle.shim_relay.proofs.layout.least_headers.Goals as goal
 

@@ -1,8 +1,8 @@
-use Rattle.std.proofs.Common.{◌≡◌, ℕ, ◌+◌, [], length, ap, sym, ◌∙◌, arith, true, false}
+use Rattle.std.proofs.Common.{◌≡◌, ℕ, [], length, ap, sym, ◌∙◌, arith, true, false}
 use Rattle.std.specs.Prelude.{slice_index, ◌/◌, ◌==◌}
-use Rattle.book_segments.specs.Segments.{spell_as, tcp_length}
+use Rattle.book_segments.specs.Segments.{spell_as}
 use Rattle.book_shim.specs.Relaying.{with_area}
-use Rattle.shim_relay.proofs.LaidLaws.{ip_long, stands, not_empty, first_is, told_four, told_six}
+use Rattle.shim_relay.proofs.LaidLaws.{stands, not_empty, first_is, told_four, told_six}
 use Rattle.shim_relay.proofs.layout.length_told.Goals as goal
 
 pub is_ipv4-requires : goal.is_ipv4-requires

@@ -1,7 +1,7 @@
-use Rattle.std.proofs.Common.{◌≡◌, ℕ, ◌+◌, List, ◌++◌, length, drop, ap, sym, ◌∙◌, arith}
+use Rattle.std.proofs.Common.{length, drop, ap, sym, ◌∙◌, arith}
 use Rattle.std.proofs.lemmas.List.{length-append}
-use Rattle.book_segments.specs.Segments.{spell, checksum_of, tcp_length}
-use Rattle.book_shim.specs.Relaying.{with_area, relaid}
+use Rattle.book_segments.specs.Segments.{spell}
+use Rattle.book_shim.specs.Relaying.{with_area}
 use Rattle.shim_relay.specs.Laying.{laid}
 use Rattle.shim_relay.proofs.LaidLaws.{fronts, not_empty, tcp_told, laid_long, relaid_long, finishes}
 use Rattle.shim_relay.proofs.layout.relay.Goals as goal
