@@ -373,6 +373,7 @@ struct aotcp_shim_counters {
         struct aotcp_fault_counters bad;
         uint64_t no_node, unkeyed, checksum;
         struct aotcp_verdict_counters refused;
+        uint64_t icmp;
     } in;
 };
 
@@ -409,6 +410,12 @@ int aotcp_shim_outbound(struct aotcp_shim *shim, uint64_t now, uint8_t *buffer, 
  * maximum segment size that leaves room for TCP-AO. All else as for aotcp_shim_outbound. */
 int aotcp_shim_inbound(struct aotcp_shim *shim, uint64_t now, uint16_t mtu, uint8_t *buffer, size_t room, size_t *length,
                        struct aotcp_shim_told *told);
+
+/* Whether a datagram from the network that came as ICMP or ICMPv6, `length` bytes, is to be dropped: an error that quotes a
+ * segment of a pair that some row is for, at whatever time (RFC 5925, section 7.8), and whatever can't be read as far as the
+ * ports that it quotes, a fragment too. It is counted where it is; all else stays. Its checksums are left to the kernel.
+ * `ignored` is written with AOTCP_OK alone. AOTCP_NO_STACK. */
+int aotcp_shim_icmp(struct aotcp_shim *shim, const uint8_t *datagram, size_t length, bool *ignored);
 
 /* What was counted. AOTCP_NO_STACK. */
 int aotcp_shim_counters(struct aotcp_shim *shim, struct aotcp_shim_counters *told);

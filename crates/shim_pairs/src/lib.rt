@@ -10,6 +10,7 @@ mod copy;
 mod counters;
 mod eldest;
 mod entry;
+mod ignore;
 mod inbound;
 mod outbound;
 mod pairs;

@@ -1,17 +1,19 @@
 //! A shim: the pairs of sockets whose datagrams pass through.
 ghost use Rattle.std.specs.Prelude.{◌≡◌, ◌+◌, ◌≤◌, ◌^◌, [], length, take, slice_get, IfOk, IfErr, OnOk, OnErr};
-ghost use Rattle.shim_pairs.specs.Counting.{arriving_counted, leaving_counted, no_counters};
-ghost use Rattle.shim_pairs.specs.Holdings.{IsRefused, carried, restored, saved_at};
+ghost use Rattle.book_shim.specs.Quoting.{is_ignored, notice};
+ghost use Rattle.shim_pairs.specs.Counting.{arriving_counted, ignored_counted, leaving_counted, no_counters};
+ghost use Rattle.shim_pairs.specs.Holdings.{IsRefused, carried, restored, rows_for, saved_at};
 ghost use Rattle.shim_pairs.specs.Passing.{Enters, IsUnsent, IsUntaken, Leaves, Stays};
 
 use crate::answer::{PairUnsent, PairUntaken, Passed};
 use crate::copy::{MOST_BYTES, copy_datagram};
-use crate::counters::{Counters, arriving_counted, leaving_counted, no_counters};
+use crate::counters::{Counters, arriving_counted, ignored_counted, leaving_counted, no_counters};
 use crate::pairs::Pairs;
 use crate::saved::{RestoreRefusal, Saved};
 use ao_base::Steps;
 use book_shim::{Unsent, Untaken};
 use key_table::Tables;
+use shim_icmp::read_notice;
 use std::alloc::{AllocError, Global};
 use std::marker::Model;
 use std::sync::ledger::Ledger;
@@ -131,6 +133,21 @@ impl Shim {
         };
         self.counters = arriving_counted(answer, self.counters);
         answer
+    }
+
+    /// Whether a datagram from the network that came as ICMP is to be kept from the own kernel: an error that quotes
+    /// a segment of a pair for which some row is, at whatever time (RFC 5925, section 7.8), and whatever can't be
+    /// read as far as the ports that it quotes, a fragment too. Then it adds one to one counter. All else stays.
+    ///
+    /// No checksum is judged, and no memory is taken.
+    pub fn ignores(&mut self, bytes: &[u8]) -> bool
+        ensures answer { result ≡ is_ignored (rows_for self.old.held) (notice bytes.now) }
+        ensures held { self.new.held ≡ self.old.held }
+        ensures counted { self.new.counters ≡ ignored_counted result self.old.counters }
+    {
+        let ignored = self.pairs.ignores(read_notice(bytes));
+        self.counters = ignored_counted(ignored, self.counters);
+        ignored
     }
 
     /// What is saved of the pair at this place, from 0, in the order of pairs; none where it has no
