@@ -373,6 +373,7 @@ struct aotcp_shim_counters {
         struct aotcp_fault_counters bad;
         uint64_t no_node, unkeyed, checksum;
         struct aotcp_verdict_counters refused;
+        uint64_t icmp;
     } in;
 };
 
@@ -387,8 +388,8 @@ struct aotcp_saved {
 
 /* Makes a shim for the nodes of a key file, whose text is in memory; each node's address is an own one. It keeps at most
  * `most` pairs of sockets, 1 to 4,096: where so many are kept and another one comes about, the one of which nothing
- * passed for longest goes. All its memory is taken here, 600 bytes for each pair and each row of the largest table; no other
- * call takes any. AOTCP_BAD_MOST, AOTCP_HELD, AOTCP_BAD_KEYS with its fault, or AOTCP_NO_MEMORY, in this order: the first
+ * passed for longest goes. All its memory is taken here, 600 bytes for each pair and each row of the largest table; of the other
+ * calls aotcp_shim_keys alone takes any. AOTCP_BAD_MOST, AOTCP_HELD, AOTCP_BAD_KEYS with its fault, or AOTCP_NO_MEMORY, in this order: the first
  * that holds; then the handle is as it was. `fault` is written with AOTCP_BAD_KEYS alone. */
 int aotcp_shim_new(struct aotcp_shim *shim, const uint8_t *text, size_t length, uint16_t most,
                    struct aotcp_fault *fault);
@@ -410,6 +411,12 @@ int aotcp_shim_outbound(struct aotcp_shim *shim, uint64_t now, uint8_t *buffer, 
 int aotcp_shim_inbound(struct aotcp_shim *shim, uint64_t now, uint16_t mtu, uint8_t *buffer, size_t room, size_t *length,
                        struct aotcp_shim_told *told);
 
+/* Whether a datagram from the network that came as ICMP or ICMPv6, `length` bytes, is to be dropped: an error that quotes a
+ * segment of a pair that some row is for, at whatever time (RFC 5925, section 7.8), and whatever can't be read as far as the
+ * ports that it quotes, a fragment too. It is counted where it is; all else stays. Its checksums are left to the kernel.
+ * `ignored` is written with AOTCP_OK alone. AOTCP_NO_STACK. */
+int aotcp_shim_icmp(struct aotcp_shim *shim, const uint8_t *datagram, size_t length, bool *ignored);
+
 /* What was counted. AOTCP_NO_STACK. */
 int aotcp_shim_counters(struct aotcp_shim *shim, struct aotcp_shim_counters *told);
 
@@ -421,9 +428,15 @@ int aotcp_shim_save(struct aotcp_shim *shim, uint32_t at, struct aotcp_saved *sa
 /* Goes on with a connection that was saved, at `now`, in seconds since 1970, also under another key file. Its current
  * key is the one that sends under its KeyID then; where there is none, it is chosen anew. AOTCP_NO_STACK,
  * AOTCP_BAD_FAMILY, AOTCP_BAD_ROW (a number past 2^63), AOTCP_IN_USE (the pair is kept already), AOTCP_NO_NODE (no node
- * has its own address); then nothing has changed. For new keys make a shim of the new text, restore
- * into it what the old one saves, and free the old one. */
+ * has its own address); then nothing has changed. For new keys a shim that runs needs aotcp_shim_keys alone. */
 int aotcp_shim_restore(struct aotcp_shim *shim, uint64_t now, const struct aotcp_saved *saved);
+
+/* Goes on at `now`, in seconds since 1970, with the nodes of another key file, whose text is in memory: each connection that
+ * aotcp_shim_save tells is brought back as by aotcp_shim_restore. One whose own address no node has any more is let go, and
+ * so is a pair without a connection; the counters go on. It takes memory as aotcp_shim_new does for as many pairs, and then
+ * frees the old one. AOTCP_NO_STACK, AOTCP_BAD_KEYS with its fault, or AOTCP_NO_MEMORY, in this order: the first that
+ * holds; then nothing has changed. `fault` is written with AOTCP_BAD_KEYS alone. */
+int aotcp_shim_keys(struct aotcp_shim *shim, uint64_t now, const uint8_t *text, size_t length, struct aotcp_fault *fault);
 
 #ifdef __cplusplus
 }

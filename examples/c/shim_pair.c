@@ -1,6 +1,7 @@
 /* Two shims in memory between two ends of a small TCP that knows nothing of TCP-AO: a handshake, 60,000 bytes both ways
- * over a lossy path that also repeats, reorders and alters by a seed, a rollover of keys by the clock, shims that begin
- * anew with what was saved, a close. Every byte is compared. The status is 0 where all is as it must be.
+ * over a lossy path that also repeats, reorders and alters by a seed, a rollover to keys that are read while the
+ * connection runs, shims that begin anew with what was saved, a close. Every byte is compared. The status is 0 where all is
+ * as it must be.
  *
  *   shim_pair [SEED [COUNT]]        so many runs from a seed */
 #include "aotcp.h"
@@ -26,11 +27,15 @@
 #define TWO "a0a1a2a3a4a5a6a7a8a9aaabacadaeafb0b1b2b3"
 #define OLD "SendLifetimeEnd = \"20261128000010Z\"\n"
 #define NEW "SendLifetimeStart = \"20261128000005Z\"\n"
-static const char *const KEYS[2] = {
-    "[[node]]\nname = \"client\"\naddress = \"10.0.0.1\"\n" ROW("7", "5", "10.0.0.2", ONE, OLD)
-        ROW("8", "6", "10.0.0.2", TWO, NEW),
-    "[[node]]\nname = \"server\"\naddress = \"10.0.0.2\"\n" ROW("5", "7", "10.0.0.1", ONE, OLD)
-        ROW("6", "8", "10.0.0.1", TWO, NEW)};
+/* The keys of each end at first, and those that it reads while the connection runs. */
+static const char *const KEYS[2][2] = {
+    {"[[node]]\nname = \"client\"\naddress = \"10.0.0.1\"\n" ROW("7", "5", "10.0.0.2", ONE, OLD),
+     "[[node]]\nname = \"server\"\naddress = \"10.0.0.2\"\n" ROW("5", "7", "10.0.0.1", ONE, OLD)},
+    {"[[node]]\nname = \"client\"\naddress = \"10.0.0.1\"\n" ROW("8", "6", "10.0.0.2", TWO, NEW)
+         ROW("7", "5", "10.0.0.2", ONE, OLD),
+     "[[node]]\nname = \"server\"\naddress = \"10.0.0.2\"\n" ROW("6", "8", "10.0.0.1", TWO, NEW)
+         ROW("5", "7", "10.0.0.1", ONE, OLD)}};
+static const char NO_NODE[] = "[[node]]\nname = \"other\"\naddress = \"10.0.0.3\"\n" ROW("7", "5", "10.0.0.2", ONE, OLD);
 
 enum { CLIENT, SERVER, MOST_FLYING = 4096, ROOM = TCP_LONGEST + 20 };
 
@@ -64,9 +69,28 @@ static unsigned roll(struct world *w, unsigned n) {
     return (unsigned)(w->dice >> 33) % n;
 }
 
-static void shim_open(struct aotcp_shim *shim, int end) {
+static void shim_open(struct aotcp_shim *shim, const char *keys) {
     struct aotcp_fault fault = {0, 0, 0, 0};
-    CHECK(aotcp_shim_new(shim, (const uint8_t *)KEYS[end], strlen(KEYS[end]), 4, &fault) == AOTCP_OK);
+    CHECK(aotcp_shim_new(shim, (const uint8_t *)keys, strlen(keys), 4, &fault) == AOTCP_OK);
+}
+
+static int shim_keys(struct aotcp_shim *shim, uint64_t now, const char *keys, struct aotcp_fault *fault) {
+    return aotcp_shim_keys(shim, now / 1000, (const uint8_t *)keys, strlen(keys), fault);
+}
+
+/* All that a shim's calls tell but the answers to datagrams. */
+struct picture {
+    struct aotcp_saved saved;
+    struct aotcp_shim_counters counters;
+};
+
+static struct picture picture_of(struct aotcp_shim *shim) {
+    struct picture picture;
+    memset(&picture, 0, sizeof picture);
+    CHECK(aotcp_shim_save(shim, 1, &picture.saved) == AOTCP_NOTHING);
+    CHECK(aotcp_shim_save(shim, 0, &picture.saved) == AOTCP_OK);
+    CHECK(aotcp_shim_counters(shim, &picture.counters) == AOTCP_OK);
+    return picture;
 }
 
 /* What the shim counted since it began is what was seen of it. */
@@ -87,7 +111,7 @@ static void check_counters(struct world *w, int end) {
 static void begin_anew(struct world *w, int end) {
     struct aotcp_shim next = {0};
     struct aotcp_saved saved;
-    shim_open(&next, end);
+    shim_open(&next, KEYS[1][end]);
     CHECK(aotcp_shim_save(&w->shims[end], 1, &saved) == AOTCP_NOTHING);
     CHECK(aotcp_shim_save(&w->shims[end], 0, &saved) == AOTCP_OK);
     CHECK(aotcp_shim_restore(&next, w->now / 1000, &saved) == AOTCP_OK);
@@ -95,6 +119,33 @@ static void begin_anew(struct world *w, int end) {
     check_counters(w, end);
     CHECK(aotcp_shim_free(&w->shims[end]) == AOTCP_OK);
     w->shims[end] = next;
+}
+
+/* The shim reads the new keys. A file with a fault, or another table with the connection, changes nothing else. */
+static void read_keys(struct world *w, int end) {
+    struct aotcp_shim *shim = &w->shims[end], none = {0};
+    struct aotcp_fault fault = {9, 9, 9, 9};
+    struct picture before = picture_of(shim), after;
+    CHECK(shim_keys(&none, w->now, KEYS[1][end], &fault) == AOTCP_NO_STACK && fault.kind == 9);
+    CHECK(shim_keys(shim, w->now, "[[node]]\nname = 1\n", &fault) == AOTCP_BAD_KEYS && fault.kind == AOTCP_FAULT_COLUMN);
+    after = picture_of(shim);
+    CHECK(memcmp(&before, &after, sizeof after) == 0);
+    CHECK(before.saved.has_key && before.saved.key_id == (end == CLIENT ? 5 : 7));
+    CHECK(shim_keys(shim, w->now, KEYS[1][end], &fault) == AOTCP_OK);
+    after = picture_of(shim);
+    CHECK(memcmp(&before, &after, sizeof after) == 0);
+}
+
+/* Under keys that have no node of its address a connection ends, and the counters go on. */
+static void lose_node(struct world *w, int end) {
+    struct aotcp_fault fault = {0, 0, 0, 0};
+    struct picture before = picture_of(&w->shims[end]);
+    struct aotcp_saved saved;
+    struct aotcp_shim_counters counters;
+    CHECK(shim_keys(&w->shims[end], w->now, NO_NODE, &fault) == AOTCP_OK);
+    CHECK(aotcp_shim_save(&w->shims[end], 0, &saved) == AOTCP_NOTHING);
+    CHECK(aotcp_shim_counters(&w->shims[end], &counters) == AOTCP_OK);
+    CHECK(memcmp(&counters, &before.counters, sizeof counters) == 0);
 }
 
 /* A datagram goes on its way, where it may be lost, repeated, delayed and altered. */
@@ -163,7 +214,7 @@ static void run(struct world *w, uint64_t seed) {
     w->dice = seed;
     for (int end = 0; end < 2; end++) {
         struct tcp *t = &w->ends[end];
-        shim_open(&w->shims[end], end);
+        shim_open(&w->shims[end], KEYS[0][end]);
         *t = (struct tcp){.state = end == CLIENT ? TCP_SYN_SENT : TCP_LISTEN,
                           .own = {10, 0, 0, end == CLIENT ? 1 : 2},
                           .peer = {10, 0, 0, end == CLIENT ? 2 : 1},
@@ -172,9 +223,14 @@ static void run(struct world *w, uint64_t seed) {
                           .isn = end == CLIENT ? 0xfffff000u : 0xffffffffu};
         for (size_t i = 0; i < TCP_STREAM; i++) t->given[i] = (uint8_t)roll(w, 256);
     }
-    bool anew = false;
+    bool anew = false, rolled = false;
     while (!tcp_is_done(&w->ends[CLIENT]) || !tcp_is_done(&w->ends[SERVER])) {
         step(w);
+        if (!rolled && w->ends[CLIENT].heard > TCP_STREAM / 8) {
+            read_keys(w, CLIENT);
+            read_keys(w, SERVER);
+            rolled = true;
+        }
         if (!anew && w->ends[CLIENT].heard > TCP_STREAM / 2) {
             begin_anew(w, CLIENT);
             begin_anew(w, SERVER);
@@ -185,6 +241,7 @@ static void run(struct world *w, uint64_t seed) {
     for (int end = 0; end < 2; end++)
         CHECK(memcmp(w->ends[end].taken, w->ends[!end].given, TCP_STREAM) == 0);
     CHECK(w->keys[CLIENT][5] > 0 && w->keys[CLIENT][6] > 0 && w->keys[SERVER][7] > 0 && w->keys[SERVER][8] > 0);
+    for (int end = 0; end < 2; end++) lose_node(w, end);
     CHECK(w->altered > 0 && w->refused[CLIENT] + w->refused[SERVER] > 0);
     for (int end = 0; end < 2; end++) CHECK(aotcp_shim_free(&w->shims[end]) == AOTCP_OK);
 }

@@ -8,7 +8,7 @@ static const char *const names[CAUSES] = {
     "", "truncated", "version", "header-length", "header-checksum", "fragment", "not-tcp", "extension-header",
     "data-offset", "option", "no-node", "unkeyed", "checksum", "no-ao", "two-ao", "with-md5", "no-tuple", "expired",
     "mac-length", "no-context", "range", "bad-mac", "has-option", "out-no-context", "out-range", "no-key", "no-room",
-    "too-long", "not-kept", "failed"};
+    "too-long", "not-kept", "failed", "icmp"};
 
 unsigned cause_of(const struct aotcp_shim_told *told) {
     static const uint8_t others[] = {

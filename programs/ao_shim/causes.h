@@ -7,8 +7,8 @@
 enum way { OUT, IN };
 
 /* CAUSE_UNKEYED: no row of the key file is for the pair. CAUSE_NOT_KEPT: it passed, but what must be kept before it goes on couldn't be written. CAUSE_FAILED: the library
- * answered with a code. The others are those of enum aotcp_shim_cause, with their reasons. */
-enum { CAUSE_PASSED = 0, CAUSE_UNKEYED = 11, CAUSE_NOT_KEPT = 28, CAUSE_FAILED = 29, CAUSES = 30 };
+ * answered with a code. CAUSE_ICMP: ICMP about a pair that has keys, or that can't be read. The others are those of enum aotcp_shim_cause, with their reasons. */
+enum { CAUSE_PASSED = 0, CAUSE_UNKEYED = 11, CAUSE_NOT_KEPT = 28, CAUSE_FAILED = 29, CAUSE_ICMP = 30, CAUSES = 31 };
 
 unsigned cause_of(const struct aotcp_shim_told *told);
 

@@ -6,7 +6,7 @@
 #include <errno.h>
 #include <string.h>
 
-enum { SYN = 2, RST = 4, KIND_AO = 29 };
+enum { SYN = 2, RST = 4, KIND_AO = 29, ICMP = 1, ICMPV6 = 58 };
 
 /* The flags of a segment, and the ids of its option of TCP-AO. */
 struct seen {
@@ -92,9 +92,25 @@ static void avoid_zero(uint8_t *datagram, size_t length) {
 static unsigned ask(struct program *p, enum way way, uint16_t mtu, uint8_t *datagram, size_t *length, size_t room,
                     struct aotcp_shim_told *told) {
     memset(told, 0, sizeof *told);
-    int code = way == OUT ? aotcp_shim_outbound(shim_of(p), p->tally.at, datagram, room, length, told)
-                          : aotcp_shim_inbound(shim_of(p), p->tally.at, mtu, datagram, room, length, told);
+    int code = way == OUT ? aotcp_shim_outbound(&p->shim, p->tally.at, datagram, room, length, told)
+                          : aotcp_shim_inbound(&p->shim, p->tally.at, mtu, datagram, room, length, told);
     return code == AOTCP_OK ? cause_of(told) : CAUSE_FAILED;
+}
+
+static bool is_icmp(const uint8_t *bytes, size_t length) {
+    return length >= 20 && (bytes[0] >> 4 == 6 ? bytes[6] == ICMPV6 : bytes[9] == ICMP);
+}
+
+/* ICMP from the network. What passes isn't counted, since no key vouches for it. */
+static bool judge_icmp(struct program *p, const uint8_t *datagram, size_t length) {
+    static const struct aotcp_pair none;
+    bool ignored = true;
+    int code = aotcp_shim_icmp(&p->shim, datagram, length, &ignored);
+    if (code == AOTCP_OK && !ignored) return true;
+    unsigned cause = code == AOTCP_OK ? CAUSE_ICMP : CAUSE_FAILED;
+    p->tally.counts[IN][cause]++;
+    tell_dropped(p, NULL, IN, &none, cause);
+    return false;
 }
 
 bool judge(struct program *p, enum way way, uint16_t mtu, uint8_t *datagram, size_t *length, size_t room) {
@@ -102,6 +118,7 @@ bool judge(struct program *p, enum way way, uint16_t mtu, uint8_t *datagram, siz
     struct end *end = NULL;
     p->tally.at = seconds();
     p->stirred = true;
+    if (way == IN && is_icmp(datagram, *length)) return judge_icmp(p, datagram, *length);
     struct seen came = look_at(datagram, *length);
     unsigned cause = ask(p, way, mtu, datagram, length, room, &told);
     if (cause == CAUSE_PASSED)

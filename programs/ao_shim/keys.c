@@ -40,8 +40,8 @@ static void tell_fault(const char *path, int code, const struct aotcp_fault *fau
     }
 }
 
-/* A shim from the file, in a handle that holds none. */
-static bool make_shim(struct aotcp_shim *shim, const char *path, uint16_t most) {
+/* The keys of the file for a shim: one is made where the handle holds none, and else goes on with them. */
+static bool give_keys(struct aotcp_shim *shim, const char *path, uint16_t most) {
     size_t length = 0;
     struct aotcp_fault fault = {0, 0, 0, 0};
     uint8_t *text = read_file(path, &length);
@@ -49,38 +49,25 @@ static bool make_shim(struct aotcp_shim *shim, const char *path, uint16_t most) 
         fprintf(stderr, "ao-shim: keys %s: %s\n", path, strerror(errno));
         return false;
     }
-    int code = aotcp_shim_new(shim, text, length, most, &fault);
+    int code = shim->live ? aotcp_shim_keys(shim, seconds(), text, length, &fault)
+                          : aotcp_shim_new(shim, text, length, most, &fault);
     forget_file(text, length);
     if (code != AOTCP_OK) tell_fault(path, code, &fault);
     return code == AOTCP_OK;
 }
 
-/* The new shim goes on with what the old one saves, but for connections whose node went. */
-static bool hand_over(struct aotcp_shim *from, struct aotcp_shim *to) {
+static unsigned count_kept(struct aotcp_shim *shim) {
     struct aotcp_saved saved;
-    int code = AOTCP_OK;
-    unsigned gone = 0;
-    for (uint32_t at = 0; code == AOTCP_OK && next_saved(from, &at, &saved);) {
-        code = aotcp_shim_restore(to, seconds(), &saved);
-        if (code == AOTCP_NO_NODE) {
-            code = AOTCP_OK;
-            gone++;
-        }
-    }
-    if (gone > 0) fprintf(stderr, "ao-shim: keys: %u connections end, since no node has their local address\n", gone);
-    if (code != AOTCP_OK) fprintf(stderr, "ao-shim: keys: a connection can't go on: code %d\n", code);
-    return code == AOTCP_OK;
+    unsigned count = 0;
+    for (uint32_t at = 0; next_saved(shim, &at, &saved);) count++;
+    return count;
 }
 
 bool read_keys(struct program *p) {
-    struct aotcp_shim *now = shim_of(p), *next = &p->shims[1 - p->which];
-    if (!make_shim(next, p->options.keys, p->options.most)) return false;
-    if (now->live && !hand_over(now, next)) {
-        aotcp_shim_free(next);
-        return false;
-    }
-    if (now->live) aotcp_shim_free(now);
-    p->which = 1 - p->which;
+    unsigned before = p->shim.live ? count_kept(&p->shim) : 0;
+    if (!give_keys(&p->shim, p->options.keys, p->options.most)) return false;
+    unsigned gone = before - count_kept(&p->shim);
+    if (gone > 0) fprintf(stderr, "ao-shim: keys: %u connections end, since no node has their local address\n", gone);
     p->tally.keys_read = seconds();
     p->stirred = true;
     fprintf(stderr, "ao-shim: keys read\n");
@@ -91,7 +78,7 @@ int check_keys(const struct options *options) {
     struct aotcp_shim shim;
     struct stat about;
     memset(&shim, 0, sizeof shim);
-    if (!make_shim(&shim, options->keys, 1)) return 1;
+    if (!give_keys(&shim, options->keys, 1)) return 1;
     aotcp_shim_free(&shim);
     if (stat(options->keys, &about) == 0 && (about.st_mode & (S_IRWXG | S_IRWXO)) != 0)
         printf("%s: others than its owner may read or write it (mode %o)\n", options->keys, about.st_mode & 0777u);

@@ -88,7 +88,7 @@ static int run(const struct options *options) {
     bool kept = tell_kept(&p);
     if (reports) write_reports(&p);
     tell_counters(&p);
-    aotcp_shim_free(shim_of(&p));
+    aotcp_shim_free(&p.shim);
     return kept ? 0 : 1;
 }
 

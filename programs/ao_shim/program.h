@@ -8,16 +8,13 @@
 
 struct program {
     struct options options;
-    struct aotcp_shim shims[2]; /* the one that runs, and one that holds none but while keys are read again */
-    unsigned which;
+    struct aotcp_shim shim;
     struct tally tally;
     uint64_t round;               /* of state files: 1 more with each that was written */
     bool stirred;                 /* something was counted since the status was written */
     struct limit strangers;       /* lines on pairs that aren't known, */
     struct limit kept, reports;   /* and on files that can't be written */
 };
-
-static inline struct aotcp_shim *shim_of(struct program *p) { return &p->shims[p->which]; }
 
 /* What is saved of the next connection from place *at on, which then is the place after it; false where none is left. */
 static inline bool next_saved(struct aotcp_shim *shim, uint32_t *at, struct aotcp_saved *saved) {

@@ -14,7 +14,7 @@ static void bring_up(struct program *p) {
     struct aotcp_saved saved;
     struct rusage used;
     for (unsigned i = 0; i < tally->most; i++) tally->ends[i].live = false;
-    for (uint32_t at = 0; next_saved(shim_of(p), &at, &saved);) {
+    for (uint32_t at = 0; next_saved(&p->shim, &at, &saved);) {
         struct end *end = find_end(tally, &saved.pair);
         if (end == NULL) continue;
         end->live = true;

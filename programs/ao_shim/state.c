@@ -15,7 +15,7 @@ static void print_state(FILE *file, void *with) {
     struct aotcp_saved saved;
     char local[SOCKET_TEXT], remote[SOCKET_TEXT];
     fputs(head, file);
-    for (uint32_t at = 0; next_saved(shim_of(p), &at, &saved);) {
+    for (uint32_t at = 0; next_saved(&p->shim, &at, &saved);) {
         char key[4] = "-";
         if (saved.has_key) snprintf(key, sizeof key, "%u", saved.key_id);
         fprintf(file, "%s %u %s %u %" PRIu32 " %" PRIu32 " %" PRIu64 " %" PRIu64 " %s\n",
@@ -95,7 +95,7 @@ static unsigned go_on(struct program *p, char *text) {
         struct aotcp_saved saved;
         number++;
         if (text == NULL && line[0] == '\0') break; /* after the last line */
-        int code = read_line(line, &saved) ? aotcp_shim_restore(shim_of(p), seconds(), &saved) : -1;
+        int code = read_line(line, &saved) ? aotcp_shim_restore(&p->shim, seconds(), &saved) : -1;
         const char *fault = fault_of(code);
         if (fault != NULL) {
             fprintf(stderr, "ao-shim: state %s: line %u is left out: %s\n", p->options.state, number, fault);

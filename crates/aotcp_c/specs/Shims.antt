@@ -5,6 +5,8 @@ use Rattle.std.specs.Option.{unwrap_or}
 use Rattle.book_base.specs.declared.address.Pair.{Pair}
 use Rattle.book_segments.specs.Segments.{Reading, Read, Bad as Unread, reading, pair_reached}
 use Rattle.book_keys.specs.Nodes.{tables_of}
+use Rattle.book_keys.specs.Rows.{Table}
+use Rattle.book_shim.specs.Quoting.{is_ignored, notice}
 use Rattle.book_shim.specs.declared.refusal.Unsent.TheVariants as unsent
 use Rattle.book_shim.specs.declared.refusal.Untaken.TheVariants as untaken
 use Rattle.shim_pairs.specs.declared.answer.Passed.{Passed}
@@ -18,8 +20,8 @@ use Rattle.shim_pairs.specs.declared.saved.RestoreRefusal.TheVariants as refusal
 use Rattle.shim_pairs.specs.declared.counters.Counters.{Counters}
 use Rattle.shim_pairs.specs.declared.counters.FaultCounters.{FaultCounters}
 use Rattle.shim_pairs.specs.declared.counters.VerdictCounters.{VerdictCounters}
-use Rattle.shim_pairs.specs.Counting.{arriving_counted, leaving_counted, no_counters}
-use Rattle.shim_pairs.specs.Holdings.{IsRefused, ShimState, restored, saved_at}
+use Rattle.shim_pairs.specs.Counting.{arriving_counted, ignored_counted, leaving_counted, no_counters}
+use Rattle.shim_pairs.specs.Holdings.{IsRefused, ShimState, carried, restored, rows_for, saved_at}
 use Rattle.shim_pairs.specs.Passing.{Enters, IsUnsent, IsUntaken, Leaves, Stays, pair_left}
 use Rattle.aotcp_c.specs.declared.shapes.CFault.{CFault}
 use Rattle.aotcp_c.specs.declared.shapes.CPair.{CPair}
@@ -174,6 +176,13 @@ pub record HandsIn (now mtu : ℕ) (h k : ShimState) (count after : ℕ) (old ne
   pub done : has_room count old ≡ true → code ≡ ok
   pub told_is : has_room count old ≡ true → ReachedSo now mtu h k count after old new told
 
+-- it is told whether a datagram that came as ICMP is kept from the own kernel (own)
+pub record Ignores (h k : ShimState) (bytes : List ℕ) (ignored : Bool) (code : ℤ) : Type 0 where
+  pub code_is : code ≡ ok
+  pub ignored_is : ignored ≡ is_ignored (rows_for h.held) (notice bytes)
+  pub held_is : k.held ≡ h.held
+  pub counted : k.counters ≡ ignored_counted ignored h.counters
+
 -- what is saved of a connection, as a C program sees it (own)
 abbrev pub saved_told : Saved → CSaved
 saved_told s = record {
@@ -266,6 +275,20 @@ pub record MakesShim (most : ℕ) (held : Option ShimState) (text : List ℕ) (t
   pub beyond : is_most_pairs most ≡ false → code ≡ bad_most
   pub makes : is_most_pairs most ≡ true → MakesShimAt held text told code
 
+-- a shim goes on with the tables of this key file (own)
+pub record GoesOn (now : ℕ) (text : List ℕ) (h k : ShimState) : Type 0 where
+  pub tables : List Table
+  pub read : tables_of text ≡ Ok tables
+  pub shim_is : k ≡ record h { held = carried now h.held tables }
+
+-- a shim goes on with the tables of a key file; where the file has a fault, or memory runs out, the
+-- shim is as it was (own)
+pub record Rekeys (now : ℕ) (text : List ℕ) (told : CFault) (h k : ShimState) (code : ℤ) : Type 0
+  where
+    pub goes_on : code ≡ ok → GoesOn now text h k
+    pub stays : code ≢ ok → k ≡ h
+    pub code_is : ReadsKeys text told code (λ tables. (code ≡ ok) ⊎ (code ≡ no_memory))
+
 -- how many times bytes were no datagram, as a C program sees it (own)
 abbrev pub told_faults : FaultCounters → CFaultCounters
 told_faults k = record {
@@ -316,5 +339,6 @@ told_counts k = record {
     unkeyed = k.arriving.unkeyed;
     checksum = k.arriving.checksum;
     refused = told_verdicts k.arriving.refused;
+    icmp = k.arriving.icmp;
   };
 }

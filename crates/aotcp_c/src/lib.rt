@@ -20,6 +20,8 @@ mod shapes;
 mod shim_calls;
 mod shim_counters;
 mod shim_handle;
+mod shim_icmp;
+mod shim_keys;
 mod shim_numbers;
 mod shim_saved;
 mod shim_shapes;

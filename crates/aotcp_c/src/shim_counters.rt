@@ -65,6 +65,7 @@ pub struct CArrivingCounters {
     pub unkeyed: u64,
     pub checksum: u64,
     pub refused: CVerdictCounters,
+    pub icmp: u64,
 }
 
 /// What a shim counted since it was made.
@@ -131,6 +132,7 @@ fn told_counts(counters: Counters) -> CShimCounters
             unkeyed: arriving.unkeyed,
             checksum: arriving.checksum,
             refused: told_verdicts(arriving.refused),
+            icmp: arriving.icmp,
         },
     }
 }

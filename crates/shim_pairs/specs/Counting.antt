@@ -1,5 +1,6 @@
--- What a shim counts. The file's tops: `leaving_counted` and `arriving_counted`.
-use Rattle.std.specs.Prelude.{ℕ, ◌+◌, min, Result, Ok, Err}
+-- What a shim counts. The file's tops: `leaving_counted`, `arriving_counted` and
+-- `ignored_counted`.
+use Rattle.std.specs.Prelude.{ℕ, ◌+◌, min, Bool, true, false, Result, Ok, Err}
 use Rattle.book_endpoint.specs.declared.verdict.Verdict.{Verdict}
 use Rattle.book_endpoint.specs.declared.verdict.Verdict.TheVariants as verdict
 use Rattle.book_segments.specs.declared.fault.DatagramFault.{DatagramFault}
@@ -73,6 +74,7 @@ no_counters = record {
     unkeyed = 0;
     checksum = 0;
     refused = no_verdicts;
+    icmp = 0;
   };
 }
 
@@ -145,4 +147,12 @@ arriving_counted (Ok p) k = record {
 arriving_counted (Err why) k = record {
   leaving = k.leaving;
   arriving = untaken_counted why k.arriving;
+}
+
+-- one more datagram came as ICMP; it is counted where it is kept from the own kernel (own)
+abbrev pub ignored_counted : (is_ignored : Bool) → Counters → Counters
+ignored_counted false k = k
+ignored_counted true k = record {
+  leaving = k.leaving;
+  arriving = record k.arriving { icmp = next_count k.arriving.icmp };
 }

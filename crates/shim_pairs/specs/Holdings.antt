@@ -1,6 +1,6 @@
--- The pairs of sockets of which a shim keeps something, which one goes for want of room, and what
--- is saved of them.
-use Rattle.std.specs.Prelude.{◌≡◌, ◌+◌, ◌≤◌, ℕ, zero, suc, nat_le, nat_lt, Bool, true, false, not}
+-- The pairs of sockets of which a shim keeps something, which one goes for want of room, what is
+-- saved of them, and how they go on with other tables.
+use Rattle.std.specs.Prelude.{◌≡◌, ◌+◌, ◌≤◌, ◌^◌, ◌&&◌, ℕ, zero, suc, nat_le, nat_lt, Bool, true, false, not}
 use Rattle.std.specs.Prelude.{slice_get, option_map, is_some, Result, Err, List, [], ◌∷◌, length}
 use Rattle.std.specs.Prelude.{Option, Some, None, if◌then◌else◌}
 use Rattle.std.specs.List.{AllByRecursion, find}
@@ -181,6 +181,35 @@ abbrev pub IsRefused : Holding → Pair → Result (Unit {0}) RestoreRefusal →
 IsRefused h p (Err refusals.Held) = holds h p ≡ true
 IsRefused h p (Err refusals.NoNode) = (holds h p ≡ false) × (is_foreign h p ≡ true)
 IsRefused h p _ = (holds h p ≡ false) × (is_foreign h p ≡ false)
+
+-- the numbers of a connection that was saved are at most 2^63, as those of each guard are (own)
+abbrev pub are_low : Saved → Bool
+are_low s = nat_le s.sent (2 ^ 63) && nat_le s.heard (2 ^ 63)
+
+-- a connection may be brought back: its numbers are low, its pair isn't held, and a node has its own
+-- address (own)
+abbrev pub can_resume : Holding → Saved → Bool
+can_resume h s = are_low s && (not (holds h s.pair) && not (is_foreign h s.pair))
+
+-- the shim after a connection was brought back, if one was saved and may be; else as it was (own)
+abbrev pub brought : (now : ℕ) → Option Saved → Holding → Holding
+brought now None h = h
+brought now (Some s) h = if can_resume h s then restored h now s else h
+
+-- the shim after the connections of these entries, which other tables had, were brought back one
+-- after another (own)
+abbrev pub all_brought : (now : ℕ) → List Table → List (Pair × Entry) → Holding → Holding
+all_brought now tables [] h = h
+all_brought now tables (x ∷ es) h =
+    all_brought now tables es (brought now (saved_entry tables x.0 x.1) h)
+
+-- the shim with other tables, into which its connections were brought back (own)
+abbrev pub carried : (now : ℕ) → Holding → List Table → Holding
+carried now h tables = all_brought now h.tables h.entries (record {
+  tables = tables;
+  most = h.most;
+  entries = [];
+})
 
 -- the pairs of a shim, and what it counted (own)
 pub record ShimState : Type 0 where

@@ -1,6 +1,6 @@
 //! What a shim counts.
 ghost use Rattle.std.specs.Prelude.{◌≡◌};
-ghost use Rattle.shim_pairs.specs.Counting.{arriving_counted, fault_counted, leaving_counted, next_count, no_counters, unsent_counted, untaken_counted, verdict_counted};
+ghost use Rattle.shim_pairs.specs.Counting.{arriving_counted, fault_counted, leaving_counted, ignored_counted, next_count, no_counters, unsent_counted, untaken_counted, verdict_counted};
 ghost use Rattle.shim_pairs.specs.Counting.{no_faults, no_verdicts};
 
 use crate::answer::{PairUnsent, PairUntaken, Passed};
@@ -98,6 +98,8 @@ pub struct ArrivingCounters {
     pub checksum: u64,
     /// The check refused them.
     pub refused: VerdictCounters,
+    /// They came as ICMP, and were kept from the own kernel.
+    pub icmp: u64,
 }
 
 /// What a shim counted since it was made: each datagram that is handed in is counted once. A counter that
@@ -168,6 +170,7 @@ pub(crate) fn no_counters() -> Counters
             unkeyed: 0,
             checksum: 0,
             refused: no_verdicts(),
+            icmp: 0,
         },
     }
 }
@@ -295,5 +298,23 @@ pub(crate) fn arriving_counted(answer: Result<Passed, PairUntaken>, counters: Co
     Counters {
         arriving,
         ..counters
+    }
+}
+
+/// One more datagram came as ICMP; it is counted where it is kept from the own kernel.
+pub(crate) fn ignored_counted(ignored: bool, counters: Counters) -> Counters
+    ensures { result ≡ ignored_counted ignored counters }
+{
+    if ignored {
+        let arriving = ArrivingCounters {
+            icmp: next_count(counters.arriving.icmp),
+            ..counters.arriving
+        };
+        Counters {
+            arriving,
+            ..counters
+        }
+    } else {
+        counters
     }
 }

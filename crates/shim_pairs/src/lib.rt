@@ -1,7 +1,7 @@
 //! TCP-AO for the connections of a kernel's TCP that has none (RFC 5925): many pairs of sockets, each
 //! with its guard, found by the sockets of a datagram. Where as many pairs are held as there may be, the
-//! one of which nothing passed for longest goes as another one comes about. After `Shim::new` nothing
-//! takes memory.
+//! one of which nothing passed for longest goes as another one comes about. But for `Shim::new` and
+//! `Shim::rekey` nothing takes memory.
 #![tactic(auto)]
 
 mod answer;
@@ -10,10 +10,12 @@ mod copy;
 mod counters;
 mod eldest;
 mod entry;
+mod ignore;
 mod inbound;
 mod outbound;
 mod pairs;
 mod put;
+mod rekey;
 mod room;
 mod saved;
 mod shim;

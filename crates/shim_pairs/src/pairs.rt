@@ -36,14 +36,14 @@ impl Model for Pairs {
 
 impl Pairs {
     /// Nothing is held, and at most `most` pairs, with all the memory for them.
-    pub(crate) fn new(alloc: Global, tables: Tables, most: u16) -> Result<Pairs, AllocError>
+    pub(crate) fn new(alloc: Global, tables: Tables, most: usize) -> Result<Pairs, AllocError>
         requires { 1 ≤ most }
         ensures { IfOk result (λ s. s ≡ record { tables = tables; most = most; entries = [] }) }
     {
         let rows = most_rows(&tables);
         let spares = guards(alloc, rows, most)?;
         let hand = Guard::new(alloc, no_pair(), rows)?;
-        let entries = PairTable::new(alloc, usize::from(most))?;
+        let entries = PairTable::new(alloc, most)?;
         Ok(Pairs {
             tables,
             entries,

@@ -38,11 +38,11 @@ pub(crate) fn no_pair() -> Pair {
 }
 
 /// So many guards of no pair, each with room for the keys of so many rows.
-pub(crate) fn guards(alloc: Global, rows: u8, count: u16) -> Result<Vec<Guard>, AllocError>
+pub(crate) fn guards(alloc: Global, rows: u8, count: usize) -> Result<Vec<Guard>, AllocError>
     ensures count { IfOk result (λ v. length v.items ≡ count) }
     ensures room { IfOk result (λ v. HaveRoom rows v.items) }
 {
-    let mut guards = Vec::with_capacity(alloc, usize::from(count))?;
+    let mut guards = Vec::with_capacity(alloc, count)?;
     for _ in 0..count {
         guards.push(Guard::new(alloc, no_pair(), rows)?)?;
     }

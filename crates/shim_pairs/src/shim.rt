@@ -1,17 +1,19 @@
 //! A shim: the pairs of sockets whose datagrams pass through.
 ghost use Rattle.std.specs.Prelude.{◌≡◌, ◌+◌, ◌≤◌, ◌^◌, [], length, take, slice_get, IfOk, IfErr, OnOk, OnErr};
-ghost use Rattle.shim_pairs.specs.Counting.{arriving_counted, leaving_counted, no_counters};
-ghost use Rattle.shim_pairs.specs.Holdings.{IsRefused, restored, saved_at};
+ghost use Rattle.book_shim.specs.Quoting.{is_ignored, notice};
+ghost use Rattle.shim_pairs.specs.Counting.{arriving_counted, ignored_counted, leaving_counted, no_counters};
+ghost use Rattle.shim_pairs.specs.Holdings.{IsRefused, carried, restored, rows_for, saved_at};
 ghost use Rattle.shim_pairs.specs.Passing.{Enters, IsUnsent, IsUntaken, Leaves, Stays};
 
 use crate::answer::{PairUnsent, PairUntaken, Passed};
 use crate::copy::{MOST_BYTES, copy_datagram};
-use crate::counters::{Counters, arriving_counted, leaving_counted, no_counters};
+use crate::counters::{Counters, arriving_counted, ignored_counted, leaving_counted, no_counters};
 use crate::pairs::Pairs;
 use crate::saved::{RestoreRefusal, Saved};
 use ao_base::Steps;
 use book_shim::{Unsent, Untaken};
 use key_table::Tables;
+use shim_icmp::read_notice;
 use std::alloc::{AllocError, Global};
 use std::marker::Model;
 use std::sync::ledger::Ledger;
@@ -46,7 +48,7 @@ impl Shim {
         requires { 1 ≤ most }
         ensures { IfOk result (λ s. s ≡ record { held = record { tables = tables; most = most; entries = [] }; counters = no_counters }) }
     {
-        let pairs = Pairs::new(alloc, tables, most)?;
+        let pairs = Pairs::new(alloc, tables, usize::from(most))?;
         let copy = vec![in alloc; 0; MOST_BYTES]?;
         Ok(Shim {
             pairs,
@@ -133,6 +135,21 @@ impl Shim {
         answer
     }
 
+    /// Whether a datagram from the network that came as ICMP is to be kept from the own kernel: an error that quotes
+    /// a segment of a pair for which some row is, at whatever time (RFC 5925, section 7.8), and whatever can't be
+    /// read as far as the ports that it quotes, a fragment too. Then it adds one to one counter. All else stays.
+    ///
+    /// No checksum is judged, and no memory is taken.
+    pub fn ignores(&mut self, bytes: &[u8]) -> bool
+        ensures answer { result ≡ is_ignored (rows_for self.old.held) (notice bytes.now) }
+        ensures held { self.new.held ≡ self.old.held }
+        ensures counted { self.new.counters ≡ ignored_counted result self.old.counters }
+    {
+        let ignored = self.pairs.ignores(read_notice(bytes));
+        self.counters = ignored_counted(ignored, self.counters);
+        ignored
+    }
+
     /// What is saved of the pair at this place, from 0, in the order of pairs; none where it has no
     /// connection, and none from their end on.
     pub fn saved(&self, at: usize) -> Option<Saved>
@@ -155,5 +172,25 @@ impl Shim {
         ensures counters { self.new.counters ≡ self.old.counters }
     {
         self.pairs.restore(now, saved)
+    }
+
+    /// Goes on at `now`, in seconds since 1970, with the tables of another key file: each connection that is held
+    /// is brought back, in the order of pairs, as `restore` does of what `saved` tells. One whose own address no
+    /// node has any more is let go, and so is a pair without a connection. The counters go on.
+    ///
+    /// It takes all its memory anew, as `new` does for as many pairs, before it frees the old one; on `AllocError`,
+    /// want of memory, nothing has changed. No traffic key is derived.
+    pub fn rekey(&mut self, alloc: Global, now: u64, tables: Tables) -> Result<(), AllocError>
+        ensures carried { OnOk result (self.new.held ≡ carried now self.old.held tables) }
+        ensures unchanged { OnErr result (self.new ≡ self.old) }
+        ensures counters { self.new.counters ≡ self.old.counters }
+    {
+        match self.pairs.carried(alloc, now, tables) {
+            Err(why) => Err(why),
+            Ok(pairs) => {
+                self.pairs = pairs;
+                Ok(())
+            }
+        }
     }
 }
