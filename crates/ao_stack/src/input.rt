@@ -244,10 +244,9 @@ impl Stack {
     /// refuses where no connection is held. Of a segment that its end heard the answer has the row, the number,
     /// the context and the TCP-AO option that were found, and of no other.
     ///
-    /// Steps are counted: none where the bytes are no datagram; at most one derivation of a traffic key where
-    /// a SYN for a pair that is free is judged; and where an end hears the segment, at most one derivation for its
-    /// check, and at most 65 links where a piece passed. An end hears a SYN that was judged only where its
-    /// connection is over and the SYN was refused, so no other segment costs two derivations.
+    /// Steps are counted: none where the bytes are no datagram; at most one derivation of a traffic key for
+    /// a SYN that asks for a connection; and where an end hears the segment, at most one for its check, and at
+    /// most 65 links where a piece passed. Both only for a refused SYN to a connection that is over.
     pub fn input_counted<'a, L: Ledger>(
         &mut self,
         now: u64,
