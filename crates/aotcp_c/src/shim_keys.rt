@@ -42,7 +42,8 @@ pub extern "C" fn aotcp_shim_keys(
     text: &[u8],
     fault: &mut CFault,
 ) -> i32
-    ensures keys { OnShim (shim_in handle.old) (shim_in handle.new) result (λ h k. Rekeys now text.now fault.new h k result) }
+    ensures keys { OnShim (shim_in handle.old) (shim_in handle.new) result
+        (λ h k. Rekeys now text.now fault.new h k result) }
     ensures fault { result ≢ bad_keys → fault.new ≡ fault.old }
 {
     match mem::replace(handle, ShimHandle::none()).into_box(alloc) {

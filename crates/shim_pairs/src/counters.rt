@@ -1,6 +1,7 @@
 //! What a shim counts.
 ghost use Rattle.std.specs.Prelude.{◌≡◌};
-ghost use Rattle.shim_pairs.specs.Counting.{arriving_counted, fault_counted, leaving_counted, ignored_counted, next_count, no_counters, unsent_counted, untaken_counted, verdict_counted};
+ghost use Rattle.shim_pairs.specs.Counting.{arriving_counted, fault_counted, leaving_counted, ignored_counted};
+ghost use Rattle.shim_pairs.specs.Counting.{next_count, no_counters, unsent_counted, untaken_counted, verdict_counted};
 ghost use Rattle.shim_pairs.specs.Counting.{no_faults, no_verdicts};
 
 use crate::answer::{PairUnsent, PairUntaken, Passed};
