@@ -1,6 +1,7 @@
 """The rules that `rules` prints, as they stand: a session, forged RSTs and ICMP errors; then the queues' rules are flushed, and the program is killed: the guard keeps out what isn't verified."""
 from lab import *
-VARIANTS = {"v4": {}, "v6": dict(family=6), "nft-guard": dict(nft=True), "nft-guard-v6": dict(nft=True, family=6)}
+VARIANTS = {"v4": {}, "v6": dict(family=6), "nft-guard": dict(nft=True), "nft-guard-v6": dict(nft=True, family=6),
+            "icmp-queue": dict(queued=True), "icmp-queue-v6": dict(queued=True, family=6)}
 
 
 def icmp_error(l, quoted, kind, code):
@@ -26,7 +27,35 @@ def udp_refused(l):
     except TimeoutError: return False
 
 
-def run(l, nft=False):
+def run_queued(l):
+    """ICMP goes to the inbound queue too: ao-shim drops errors of each type about the session, and a fragment; all other ICMP passes."""
+    l.build(); l.keys(Row("one", (7, 5))); l.both()
+    t, protocol = ("iptables-nft", "icmp") if l.family == 4 else ("ip6tables-nft", "icmpv6")
+    l.at("a", [t, "-w", "-t", "security", "-F"])
+    types = [[]] if l.family == 4 else [["--icmpv6-type", str(it)] for it in (1, 2, 3, 4, 128, 129)]
+    for kind in types: l.at("a", [t, "-w", "-t", "raw", "-A", "PREROUTING", "-p", protocol, *kind, "-j", "NFQUEUE", "--queue-num", "2"])
+    l.capture()
+    c, d = l.pair(); l.move(c, d, 100_000); l.move(d, c, 100_000)
+    s2 = l.dial("a", 179, 5555, wait=False); time.sleep(0.2)
+    mine = [p for p in l.packets() if p["src"] == l.address["a"]]
+    syn, whole = [p for p in mine if p["sport"] == 5555][-1]["raw"], [p for p in mine if p["sport"] != 5555][-1]["raw"]
+    kinds = ((3, 3), (3, 2), (3, 4), (11, 0), (12, 0)) if l.family == 4 else ((1, 4), (1, 1), (2, 0), (3, 0), (4, 1))
+    for kind, code in kinds:
+        for quoted in (syn, whole): l.inject("x", icmp_error(l, quoted, kind, code))
+    time.sleep(0.3)
+    count = l.counters("a")["in"]["icmp"]
+    l.expect(count == 2 * len(kinds), f"ao-shim drops each ICMP error about a connection that has a key, and counts it: {count}")
+    l.expect(tcp_state(c) == 1 and tcp_state(s2) == 2, "forged ICMP errors end no session, and no connect")
+    l.move(c, d, 2_000_000); l.move(d, c, 2_000_000)
+    l.expect(info(c)["pmtu"] == 1500, "and teach the kernel no path MTU")
+    l.at("a", ["ping", "-c", "1", "-W", "2", l.address["b"]])
+    l.expect(udp_refused(l), "ping goes on, and of UDP to the peer ICMP errors are heard")
+    time.sleep(0.2)
+    l.judge()
+
+
+def run(l, nft=False, queued=False):
+    if queued: return run_queued(l)
     l.build(); l.keys(Row("one", (7, 5)))
     for e in "ab":
         l.set_printed(e, "NFQUEUE" if nft else "")
