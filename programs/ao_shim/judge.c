@@ -83,12 +83,6 @@ static bool is_let_by(const struct program *p, unsigned cause) {
     return cause == CAUSE_UNKEYED && p->options.pass_unkeyed;
 }
 
-/* Linux' own TCP-AO takes a TCP checksum of 0000 for a wrong MAC; ffff sums up to the same. */
-static void avoid_zero(uint8_t *datagram, size_t length) {
-    size_t at = tcp_at(datagram, length) + 16;
-    if (at + 2 <= length && datagram[at] == 0 && datagram[at + 1] == 0) datagram[at] = datagram[at + 1] = 0xff;
-}
-
 static unsigned ask(struct program *p, enum way way, uint16_t mtu, uint8_t *datagram, size_t *length, size_t room,
                     struct aotcp_shim_told *told) {
     memset(told, 0, sizeof *told);
@@ -133,7 +127,6 @@ bool judge(struct program *p, enum way way, uint16_t mtu, uint8_t *datagram, siz
         tell_dropped(p, end, way, &told.pair, cause);
         return false;
     }
-    if (way == OUT) avoid_zero(datagram, *length);
     struct seen seen = way == OUT ? look_at(datagram, *length) : came;
     note_passed(p, end, way, &seen);
     return true;
