@@ -11,11 +11,12 @@
  * turn was asked: it may have left the line, its timer may have stopped or started, and a timer that found no row of
  * keys to send with was doubled and runs anew. What a call tells through a pointer is written with AOTCP_OK alone,
  * unless it says more. AOTCP_NO_MEMORY of aotcp_open, aotcp_listen and aotcp_add may come in place of a code that
- * they name behind AOTCP_BAD_FAMILY or AOTCP_BAD_ROW. The answers are proved; what follows is not, and a caller owes it:
+ * they name after AOTCP_BAD_FAMILY or AOTCP_BAD_ROW. The answers are proved, except that AOTCP_NO_MEMORY comes only
+ * where there is no memory. What follows isn't proved, and a caller owes it:
  *
- *   - A handle (struct aotcp_stack) is all zero before its first call, and only these calls touch it then: it isn't
- *     copied, nothing is written into it, and it stays on its thread, with one call at a time. aotcp_free ends it; it
- *     may be used again after that.
+ *   - A handle (struct aotcp_stack or struct aotcp_shim) is all zero before its first call, and only these calls touch
+ *     it then: it isn't copied, nothing is written into it, and it stays on its thread, with one call at a time.
+ *     aotcp_free or aotcp_shim_free ends it; it may be used again after that.
  *   - Each pointer leads to as many bytes as its length says, or to one struct, which nothing else uses during the
  *     call. A pointer isn't null, not even with length 0.
  *   - A bool holds 0 or 1.
@@ -26,9 +27,9 @@
  *   - The clock doesn't go back, and each datagram is handed in once, as it came. Otherwise nothing breaks, but
  *     lifetimes of keys and timers are judged by a wrong time.
  *
- * Times are milliseconds since 1970 in calls, at most 253402300799999, the last of the year 9999; in rows of keys they
- * are seconds since 1970. Numbers of a stream have 64 bits: the upper 32 are the extension of RFC 5925, section 6.2, the
- * lower 32 the sequence number. */
+ * Times are milliseconds since 1970 in calls of a stack, at most 253402300799999, the last of the year 9999. They are
+ * seconds since 1970 in calls of a shim and in rows of keys. Numbers of a stream have 64 bits: the upper 32 are the
+ * extension of RFC 5925, section 6.2, the lower 32 the sequence number. */
 #ifndef AOTCP_H
 #define AOTCP_H
 
@@ -43,25 +44,26 @@ extern "C" {
 /* What calls answer. */
 enum aotcp_code {
     AOTCP_OK = 0,            /* it was done */
-    AOTCP_NO_STACK = 1,      /* the handle holds no stack */
+    AOTCP_NO_STACK = 1,      /* the handle holds no stack, or no shim */
     AOTCP_HELD = 2,          /* the handle holds one already */
     AOTCP_NO_MEMORY = 3,     /* memory ran out */
     AOTCP_BAD_FAMILY = 4,    /* a family other than 4 and 6 */
     AOTCP_BAD_TIME = 5,      /* a time past the year 9999 */
-    AOTCP_SMALL_ROOM = 6,    /* a room for a datagram under 1,500 bytes, or for a key under 255 */
-    AOTCP_BAD_MOST = 7,      /* a number of connections that isn't 1 to 1,024 */
-    AOTCP_BAD_ROW = 8,       /* no row of keys stands so: see struct aotcp_row */
+    AOTCP_SMALL_ROOM = 6,    /* a room for a datagram under 1,500 bytes, or for a key under 255; of a shim, a buffer
+                                with fewer than 20 bytes after the datagram */
+    AOTCP_BAD_MOST = 7,      /* a number of connections that isn't 1 to 1,024; of a shim's pairs, 1 to 4,096 */
+    AOTCP_BAD_ROW = 8,       /* no row of keys stands so: see struct aotcp_row; or a saved number past 2^63 */
     AOTCP_BAD_KEYS = 9,      /* the key file has a fault, which is told, or memory ran out */
     AOTCP_NO_NODE = 10,      /* no node of the key file has the address */
     AOTCP_NO_ROW = 11,       /* no row has the number */
     AOTCP_NO_CONNECTION = 12, /* no connection of the pair is held */
-    AOTCP_IN_USE = 13,       /* a connection of the pair is held already */
+    AOTCP_IN_USE = 13,       /* a connection of the pair is held already; of a shim, something of the pair is kept */
     AOTCP_FULL = 14,         /* as many connections are held as the stack holds at most */
     AOTCP_NO_SPACE = 15,     /* the piece is longer than the free part of the send queue */
     AOTCP_CLOSING = 16,      /* the connection takes no more bytes: it was closed, aborted or reset */
     AOTCP_TOO_MANY_ROWS = 17, /* the table has 64 rows */
     AOTCP_OVERLAP = 18,      /* a row overlaps the new one: same id, same times, some common peer */
-    AOTCP_NOTHING = 19       /* nothing is due */
+    AOTCP_NOTHING = 19       /* nothing is due; of aotcp_shim_save, no pair is at the place */
 };
 
 /* A stack, or none while it is all zero. What it holds is the library's. */
@@ -182,9 +184,9 @@ struct aotcp_key_ids {
     uint8_t rnext_key_id; /* RNextKeyID: of the key that its sender asks to be sent with */
 };
 
-/* What was counted, of a connection since it began or of all at the node. Each number stays at 2^64 - 1 once it is there.
- * Of a segment that was refused the first reason counts; of a SYN for a pair that isn't held it counts at the node
- * alone. */
+/* What was counted, of a connection since it began or of all at the node. Each number stays at 2^64 - 1 once it is
+ * there. Of a segment that was refused the first reason counts; of a SYN for a pair that isn't held it counts at the
+ * node alone. */
 struct aotcp_counters {
     uint64_t passed;        /* segments that passed TCP-AO's check, whatever came of them */
     uint64_t bad;           /* bytes that are no datagram; of the node alone, 0 of a connection */
@@ -229,7 +231,7 @@ struct aotcp_row {
 /* Makes a stack without connections for the node of this address in a key file, whose text is in memory; it holds at
  * most `most` connections, 1 to 1,024. AOTCP_BAD_MOST, AOTCP_BAD_FAMILY, AOTCP_HELD, AOTCP_BAD_KEYS with its fault,
  * AOTCP_NO_NODE or AOTCP_NO_MEMORY, in this order: the first that holds; then the handle is as it was. `fault` is
- * written with AOTCP_BAD_KEYS alone; it is want of memory, or the first fault of the file. */
+ * written with AOTCP_BAD_KEYS alone; it is out of memory, or the first fault of the file. */
 int aotcp_new(struct aotcp_stack *stack, const uint8_t *text, size_t length, const struct aotcp_address *node,
               uint16_t most, struct aotcp_fault *fault);
 
@@ -253,8 +255,8 @@ int aotcp_input(struct aotcp_stack *stack, uint64_t now, const uint8_t *bytes, s
                 struct aotcp_heard *heard);
 
 /* The next IP datagram that is due at `now`: it stands in front of `out`, of `room` bytes, 1,500 at least, and has
- * *length bytes, at most `room`. AOTCP_NOTHING where none is due: call again at aotcp_deadline, or after another call. `length` is
- * written with AOTCP_OK alone. AOTCP_NO_STACK, AOTCP_BAD_TIME, AOTCP_SMALL_ROOM. */
+ * *length bytes, at most `room`. AOTCP_NOTHING where none is due: call again at aotcp_deadline, or after another call.
+ * `length` is written with AOTCP_OK alone. AOTCP_NO_STACK, AOTCP_BAD_TIME, AOTCP_SMALL_ROOM. */
 int aotcp_output(struct aotcp_stack *stack, uint64_t now, uint8_t *out, size_t room, size_t *length);
 
 /* When aotcp_output is to be called at the latest, in milliseconds since 1970, once it has answered AOTCP_NOTHING.
@@ -271,13 +273,13 @@ int aotcp_write(struct aotcp_stack *stack, const struct aotcp_pair *pair, const 
 int aotcp_read(struct aotcp_stack *stack, const struct aotcp_pair *pair, uint8_t *out, size_t room,
                struct aotcp_taken *taken);
 
-/* The connection takes no more bytes, and a FIN is sent behind those that it was given (RFC 9293, section 3.10.4); one
+/* The connection takes no more bytes, and a FIN is sent after those that it was given (RFC 9293, section 3.10.4); one
  * that still waits for its handshake is dropped with its bytes. AOTCP_NO_STACK, AOTCP_BAD_FAMILY,
  * AOTCP_NO_CONNECTION. */
 int aotcp_close(struct aotcp_stack *stack, const struct aotcp_pair *pair);
 
-/* The connection is closed at once, and a RST is due where the peer may know of it (RFC 9293, section 3.10.5). The RST is
- * handed out once: it isn't sent again. Codes as for aotcp_close. */
+/* The connection is closed at once, and a RST is due where the peer may know of it (RFC 9293, section 3.10.5). The RST
+ * is handed out once: it isn't sent again. Codes as for aotcp_close. */
 int aotcp_abort(struct aotcp_stack *stack, const struct aotcp_pair *pair);
 
 /* Where the connection stands. `state` is written with AOTCP_OK alone. AOTCP_NO_STACK, AOTCP_BAD_FAMILY,
@@ -285,22 +287,22 @@ int aotcp_abort(struct aotcp_stack *stack, const struct aotcp_pair *pair);
 int aotcp_state(struct aotcp_stack *stack, const struct aotcp_pair *pair, struct aotcp_state *state);
 
 /* Whether the connection has waited for its peer at `now` for the user timeout of five minutes, and nothing moved it on
- * meanwhile: no new acknowledgement, and nothing that was expected (RFC 9293, section 3.9.1.1). It waits while something
- * that it sent isn't acknowledged, or bytes wait for the peer's window; false where it doesn't, or the pair isn't held.
- * What was taken once counts for nothing when it is sent again, whoever sends it; so a peer whose window stays closed is
- * told as one that is gone. Nothing is done of itself: abort, or wait on.
- * AOTCP_NO_STACK, AOTCP_BAD_FAMILY. */
+ * meanwhile: no new acknowledgement, and nothing that was expected (RFC 9293, section 3.9.1.1). It waits while
+ * something that it sent isn't acknowledged, or bytes wait for the peer's window; false where it doesn't, or the pair
+ * isn't held. What was taken once counts for nothing when it is sent again, whoever sends it; so a peer whose window
+ * stays closed is told as one that is gone. Nothing is done of itself: abort, or wait on. AOTCP_NO_STACK,
+ * AOTCP_BAD_FAMILY. */
 int aotcp_is_overdue(struct aotcp_stack *stack, const struct aotcp_pair *pair, uint64_t now, bool *overdue);
 
 /* What was counted of the connection since it began, and the key ids that it sent and heard last. `counters` is written
  * with AOTCP_OK alone. AOTCP_NO_STACK, AOTCP_BAD_FAMILY, AOTCP_NO_CONNECTION. */
 int aotcp_counters(struct aotcp_stack *stack, const struct aotcp_pair *pair, struct aotcp_counters *counters);
 
-/* What was counted of all that happened at the node, also of connections that are gone; it has no key ids. `counters` is
- * written with AOTCP_OK alone. AOTCP_NO_STACK. */
+/* What was counted of all that happened at the node, also of connections that are gone; it has no key ids. `counters`
+ * is written with AOTCP_OK alone. AOTCP_NO_STACK. */
 int aotcp_node_counters(struct aotcp_stack *stack, struct aotcp_counters *counters);
 
-/* Adds a row behind the last one, for any peer and any ports, with a master key of `length` bytes; connections go on.
+/* Adds a row after the last one, for any peer and any ports, with a master key of `length` bytes; connections go on.
  * *number is the new row's number with AOTCP_OK, and the least row that overlaps it with AOTCP_OVERLAP; else it stays.
  * AOTCP_NO_STACK, AOTCP_BAD_ROW, AOTCP_TOO_MANY_ROWS, AOTCP_OVERLAP, AOTCP_NO_MEMORY. */
 int aotcp_add(struct aotcp_stack *stack, const struct aotcp_row *row, const uint8_t *key, size_t length,
@@ -354,8 +356,9 @@ struct aotcp_shim_told {
                                   sequence numbers or another key are in use, or a number went past a multiple of 2^29 */
 };
 
-/* What a shim counted since it was made: each datagram that is handed in with room is counted once. A counter that has
- * come to 2^64 - 1 stays there. */
+/* What a shim counted since it was made, under whatever keys: each datagram that aotcp_shim_outbound or
+ * aotcp_shim_inbound answers with AOTCP_OK is counted once, and each one that aotcp_shim_icmp says is to be dropped. A
+ * counter that has come to 2^64 - 1 stays there. */
 struct aotcp_fault_counters { /* by enum aotcp_datagram_fault */
     uint64_t truncated, version, header_length, header_checksum, fragment, not_tcp, extension_header, data_offset, option;
 };
@@ -373,7 +376,7 @@ struct aotcp_shim_counters {
         struct aotcp_fault_counters bad;
         uint64_t no_node, unkeyed, checksum;
         struct aotcp_verdict_counters refused;
-        uint64_t icmp;
+        uint64_t icmp; /* what aotcp_shim_icmp says is to be dropped */
     } in;
 };
 
@@ -386,56 +389,64 @@ struct aotcp_saved {
     uint8_t key_id;            /* its KeyID; else 0 */
 };
 
-/* Makes a shim for the nodes of a key file, whose text is in memory; each node's address is an own one. It keeps at most
- * `most` pairs of sockets, 1 to 4,096: where so many are kept and another one comes about, the one of which nothing
- * passed for longest goes. All its memory is taken here, 600 bytes for each pair and each row of the largest table; of the other
- * calls aotcp_shim_keys alone takes any. AOTCP_BAD_MOST, AOTCP_HELD, AOTCP_BAD_KEYS with its fault, or AOTCP_NO_MEMORY, in this order: the first
- * that holds; then the handle is as it was. `fault` is written with AOTCP_BAD_KEYS alone. */
+/* Makes a shim for the nodes of a key file, whose text is in memory; each node's address is an own one. It keeps at
+ * most `most` pairs of sockets, 1 to 4,096: where so many are kept and another one comes about, the one of which
+ * nothing passed for longest goes, first those that were brought back and of which nothing passed since. All its memory
+ * is taken here, about 600 bytes for each pair and each row of the largest table; of the other calls aotcp_shim_keys
+ * alone takes any. AOTCP_BAD_MOST, AOTCP_HELD, AOTCP_BAD_KEYS with its fault, or AOTCP_NO_MEMORY, in this order: the
+ * first that holds; then the handle is as it was. `fault` is written with AOTCP_BAD_KEYS alone; it is out of memory, or
+ * the first fault of the file. */
 int aotcp_shim_new(struct aotcp_shim *shim, const uint8_t *text, size_t length, uint16_t most,
                    struct aotcp_fault *fault);
 
 /* Frees the shim with what it keeps and its keys. AOTCP_NO_STACK. */
 int aotcp_shim_free(struct aotcp_shim *shim);
 
-/* A datagram of the own kernel at `now`, in seconds since 1970, the first *length bytes of `buffer`, which has `room` bytes, at
- * least 20 more: it is sealed by the table of its source address (RFC 5925, section 7.4). With AOTCP_OK `told` tells what
- * became of it. What goes on stands in the buffer then, and *length is its length; the bytes after it are as they were.
- * What doesn't go on is to be dropped: the buffer, *length and what is kept of each pair are as they were. `told` is
- * written with AOTCP_OK alone. AOTCP_NO_STACK, AOTCP_SMALL_ROOM; then nothing has changed. */
+/* A datagram of the own kernel at `now`, in seconds since 1970, the first *length bytes of `buffer`, which has `room`
+ * bytes, at least 20 more: it is sealed by the table of its source address (RFC 5925, section 7.4). With AOTCP_OK
+ * `told` tells what became of it. What goes on stands in the buffer then, and *length is its length; the bytes after it
+ * are as they were. What doesn't go on is to be dropped: the buffer, *length and what is kept of each pair are as they
+ * were. `told` is written with AOTCP_OK alone. AOTCP_NO_STACK, AOTCP_SMALL_ROOM; then nothing has changed. */
 int aotcp_shim_outbound(struct aotcp_shim *shim, uint64_t now, uint8_t *buffer, size_t room, size_t *length,
                         struct aotcp_shim_told *told);
 
-/* A datagram from the network at `now`, in seconds since 1970: it is checked by the table of its destination address (RFC
- * 5925, section 7.5), and its option taken off. `mtu` is that of the device over which it came: a SYN tells the kernel a
- * maximum segment size that leaves room for TCP-AO. All else as for aotcp_shim_outbound. */
+/* A datagram from the network at `now`, in seconds since 1970: it is checked by the table of its destination address
+ * (RFC 5925, section 7.5), and its option taken off. `mtu` is that of the device over which it came, or of the path if
+ * that is less: the maximum segment size that a SYN tells is lowered, so that there is room for TCP-AO. Of a pair of
+ * which nothing is kept nothing is kept afterwards either. All else as for aotcp_shim_outbound. */
 int aotcp_shim_inbound(struct aotcp_shim *shim, uint64_t now, uint16_t mtu, uint8_t *buffer, size_t room, size_t *length,
                        struct aotcp_shim_told *told);
 
-/* Whether a datagram from the network that came as ICMP or ICMPv6, `length` bytes, is to be dropped: an error that quotes a
- * segment of a pair that some row is for, at whatever time (RFC 5925, section 7.8), and whatever can't be read as far as the
- * ports that it quotes, a fragment too. It is counted where it is; all else stays. Its checksums are left to the kernel.
- * `ignored` is written with AOTCP_OK alone. AOTCP_NO_STACK. */
+/* Whether a datagram from the network that came as ICMP or ICMPv6, `length` bytes, is to be dropped: *ignored is true
+ * of an error, of whatever code, that quotes a segment of a pair that some row is for, at whatever time (RFC 5925,
+ * section 7.8); of an error that can't be read as far as the ports that it quotes; of any fragment; of ICMPv6 with an
+ * extension header; and of bytes that are no whole ICMP datagram. It is false of all other ICMP. Checksums are left to
+ * the kernel. With true `in.icmp` of the counters goes up by one; all else that the shim keeps is as it was. `ignored`
+ * is written with AOTCP_OK alone. AOTCP_NO_STACK. */
 int aotcp_shim_icmp(struct aotcp_shim *shim, const uint8_t *datagram, size_t length, bool *ignored);
 
-/* What was counted. AOTCP_NO_STACK. */
+/* What was counted. `told` is written with AOTCP_OK alone. AOTCP_NO_STACK. */
 int aotcp_shim_counters(struct aotcp_shim *shim, struct aotcp_shim_counters *told);
 
-/* What is saved of the pair at place `at`, from 0, in an order that stays while nothing is handed in: AOTCP_NO_CONNECTION
- * where no initial sequence numbers of it are known, and AOTCP_NOTHING from the end of the pairs on. So a caller asks for
- * 0, 1, .. until AOTCP_NOTHING. `saved` is written with AOTCP_OK alone. AOTCP_NO_STACK. */
+/* What is saved of the pair at place `at`, from 0, in an order that stays while no other call changes what is kept:
+ * AOTCP_NO_CONNECTION where no initial sequence numbers of it are known, and AOTCP_NOTHING from the end of the pairs
+ * on. So a caller asks for 0, 1, .. until AOTCP_NOTHING. `saved` is written with AOTCP_OK alone. AOTCP_NO_STACK. */
 int aotcp_shim_save(struct aotcp_shim *shim, uint32_t at, struct aotcp_saved *saved);
 
 /* Goes on with a connection that was saved, at `now`, in seconds since 1970, also under another key file. Its current
- * key is the one that sends under its KeyID then; where there is none, it is chosen anew. AOTCP_NO_STACK,
- * AOTCP_BAD_FAMILY, AOTCP_BAD_ROW (a number past 2^63), AOTCP_IN_USE (the pair is kept already), AOTCP_NO_NODE (no node
- * has its own address); then nothing has changed. For new keys a shim that runs needs aotcp_shim_keys alone. */
+ * key is the one that sends under its KeyID then; where there is none, it is chosen anew. Where as many pairs are kept
+ * as may be, one goes, as aotcp_shim_new says. AOTCP_NO_STACK, AOTCP_BAD_FAMILY, AOTCP_BAD_ROW (a number past 2^63),
+ * AOTCP_IN_USE (the pair is kept already), AOTCP_NO_NODE (no node has its own address), in this order: the first that
+ * holds; then nothing has changed. For new keys a shim that runs needs aotcp_shim_keys alone. */
 int aotcp_shim_restore(struct aotcp_shim *shim, uint64_t now, const struct aotcp_saved *saved);
 
-/* Goes on at `now`, in seconds since 1970, with the nodes of another key file, whose text is in memory: each connection that
- * aotcp_shim_save tells is brought back as by aotcp_shim_restore. One whose own address no node has any more is let go, and
- * so is a pair without a connection; the counters go on. It takes memory as aotcp_shim_new does for as many pairs, and then
- * frees the old one. AOTCP_NO_STACK, AOTCP_BAD_KEYS with its fault, or AOTCP_NO_MEMORY, in this order: the first that
- * holds; then nothing has changed. `fault` is written with AOTCP_BAD_KEYS alone. */
+/* Goes on at `now`, in seconds since 1970, with the nodes of another key file, whose text is in memory: each connection
+ * that aotcp_shim_save tells is brought back as by aotcp_shim_restore. One whose own address no node has any more is
+ * let go, and so is a pair without a connection, and what is kept of a handshake that isn't finished. The counters go
+ * on, and so does the number of pairs that are kept at most. It takes memory as aotcp_shim_new does for as many pairs,
+ * and then frees the old memory. AOTCP_NO_STACK, AOTCP_BAD_KEYS with its fault, or AOTCP_NO_MEMORY, in this order: the
+ * first that holds; then nothing has changed. `fault` is written with AOTCP_BAD_KEYS alone; it is out of memory, or the
+ * first fault of the file. */
 int aotcp_shim_keys(struct aotcp_shim *shim, uint64_t now, const uint8_t *text, size_t length, struct aotcp_fault *fault);
 
 #ifdef __cplusplus
