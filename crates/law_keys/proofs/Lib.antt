@@ -1,0 +1,4 @@
+pub mod Agreeing
+pub mod RowFaults
+pub mod NodeFaults
+pub mod FileFaults
