@@ -1,3 +1,6 @@
+mod IndexLaws
+mod KeptLaws
 mod ListLaws
 pub mod MapLaws
+mod PlaceLaws
 mod TimingLaws

@@ -1,11 +1,11 @@
--- A list after the first item that passes a test was taken out, or another was put in front of it.
-use Rattle.std.proofs.Common.{◌≡◌, ℕ, suc, ◌+◌, Bool, true, false, List, [], ◌∷◌, length, Some, None, refl, sym, ap, ◌∙◌, arith}
+-- A list after the first item that passes a test was taken out.
+use Rattle.std.proofs.Common.{◌≡◌, ℕ, suc, ◌+◌, Bool, true, false, List, [], ◌∷◌, Some, None, refl, sym, ap, ◌∙◌, arith}
 use Rattle.std.specs.Prelude.{if◌then◌else◌}
-use Rattle.std.specs.List.{insert, position_from, remove}
+use Rattle.std.specs.List.{position_from, remove}
 use Rattle.book_base.specs.declared.address.Pair.{Pair}
 use Rattle.book_stack.specs.declared.alarm.Alarm.{Alarm}
-use Rattle.book_stack.specs.Alarms.{placed, without_alarm, without_pair}
-use Rattle.stack_timers.specs.Places.{is_later, is_of, is_pair}
+use Rattle.book_stack.specs.Alarms.{without_alarm, without_pair}
+use Rattle.stack_timers.specs.Places.{is_of, is_pair}
 
 -- what was found from place i on is place k, and there this holds
 record FoundAt (i j : ℕ) (P : ℕ → Type 0) : Type 0 where
@@ -49,34 +49,3 @@ pair_removed pair j xs e = removes_first (is_pair pair) (without_pair pair) refl
 
 pub pair_kept : (pair : Pair) (xs : List Pair) → position_from (is_pair pair) 0 xs ≡ None → xs ≡ without_pair pair xs
 pair_kept pair xs e = keeps_from (is_pair pair) (without_pair pair) refl (λ x ys. refl) 0 xs e
-
-module _ (a : Alarm) where
-  placed_from : (i j : ℕ) (xs : List Alarm) → position_from (is_later a.deadline) i xs ≡ Some j → FoundAt i j (λ k. insert xs k a ≡ placed a xs)
-  placed_from i j [] e = absurd (cc)
-  placed_from i j (x ∷ xs) e = at (is_later a.deadline x) refl (placed_from (i + 1) j xs) e
-    where
-      at : (v : Bool) → is_later a.deadline x ≡ v → (position_from (is_later a.deadline) (i + 1) xs ≡ Some j → FoundAt (i + 1) j (λ k. insert xs k a ≡ placed a xs))
-          → (if v then Some i else position_from (is_later a.deadline) (i + 1) xs) ≡ Some j → FoundAt i j (λ k. insert (x ∷ xs) k a ≡ placed a (x ∷ xs))
-      at true g next e = record { place = 0; is = let s : i ≡ j = cc in omega (arith, s); holds = rw g refl }
-      at false g next e = let r = next e in record {
-        place = suc r.place;
-        is = let s = r.is in omega (arith, s);
-        holds = rw g (ap (λ (ys : List Alarm). x ∷ ys) r.holds);
-      }
-
-  -- the alarm is put in front of the first that is later
-  pub placed_at : (j : ℕ) (xs : List Alarm) → position_from (is_later a.deadline) 0 xs ≡ Some j → insert xs j a ≡ placed a xs
-  placed_at j xs e = let r = placed_from 0 j xs e in let s : j ≡ r.place = let q = r.is in omega (arith, q) in rw s r.holds
-
-  placed_last_from : (i : ℕ) (xs : List Alarm) → position_from (is_later a.deadline) i xs ≡ None → insert xs (length xs) a ≡ placed a xs
-  placed_last_from i [] e = refl
-  placed_last_from i (x ∷ xs) e = at (is_later a.deadline x) refl (placed_last_from (i + 1) xs) e
-    where
-      at : (v : Bool) → is_later a.deadline x ≡ v → (position_from (is_later a.deadline) (i + 1) xs ≡ None → insert xs (length xs) a ≡ placed a xs)
-          → (if v then Some i else position_from (is_later a.deadline) (i + 1) xs) ≡ None → insert (x ∷ xs) (suc (length xs)) a ≡ placed a (x ∷ xs)
-      at true g next e = absurd (cc)
-      at false g next e = rw g (ap (λ (ys : List Alarm). x ∷ ys) (next e))
-
-  -- the alarm is put behind all others, where none is later
-  pub placed_last : (xs : List Alarm) → position_from (is_later a.deadline) 0 xs ≡ None → insert xs (length xs) a ≡ placed a xs
-  placed_last xs e = placed_last_from 0 xs e

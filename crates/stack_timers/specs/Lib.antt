@@ -1,3 +1,4 @@
+pub mod Indexes
 pub mod Loans
 pub mod Places
 pub mod Timers

@@ -1,5 +1,5 @@
 -- The lists of a stack, and for how many there is room (own).
-use Rattle.std.specs.Prelude.{ℕ, nat_lt, nat_le, Bool, List, [], ◌∷◌, Option, Some, None, if◌then◌else◌}
+use Rattle.std.specs.Prelude.{ℕ, nat_le, Bool, List, [], ◌∷◌, Option, Some, None, if◌then◌else◌}
 use Rattle.book_base.specs.declared.address.Pair.{Pair}
 use Rattle.book_cmd_node.specs.NodeRuns.{same_pair}
 use Rattle.book_stack.specs.declared.alarm.Alarm.{Alarm}
@@ -13,10 +13,6 @@ pub record Alarmed : Type 0 where
 pub record Lined : Type 0 where
   pub pairs : List Pair
   pub most : ℕ
-
--- the alarm is later than a deadline (own)
-abbrev pub is_later : ℕ → Alarm → Bool
-is_later deadline a = nat_lt deadline a.deadline
 
 -- the alarm is of this pair (own)
 abbrev pub is_of : Pair → Alarm → Bool

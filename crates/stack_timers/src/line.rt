@@ -1,21 +1,22 @@
 //! The ends that may have something to send.
-ghost use Rattle.std.specs.Prelude.{◌≡◌, ◌<◌, ◌≤◌, [], IfOk, IfSome, length, vec_capacity};
+ghost use Rattle.std.specs.Prelude.{◌≡◌, ◌<◌, ◌≤◌, [], IfOk, IfSome, length};
 ghost use Rattle.std.specs.List.{position_from};
-ghost use Rattle.book_stack.specs.Alarms.{lined, stands_in, without_pair};
+ghost use Rattle.book_stack.specs.Alarms.{lined, without_pair};
 ghost use Rattle.book_cmd_node.specs.NodeRuns.{same_pair};
 ghost use Rattle.stack_timers.specs.Places.{behind_first, first_of, is_pair};
 
 use book_base::Pair;
+use pair_table::PairTable;
 use std::alloc::{AllocError, Global};
+use std::collections::VecDeque;
 use std::marker::Model;
 
 /// Pairs of connections in the order of their turns, each once. Seen as this list, and how many there
-/// are at most.
+/// are at most. Beside the line stands a table of the same pairs, in which one is looked up.
 #[derive(Drop)]
 pub struct Line {
-    most: usize,
-    items: Vec<Pair>,
-    ghost places: { most ≤ vec_capacity items },
+    items: VecDeque<Pair>,
+    standing: PairTable<()>,
 }
 
 impl Model for Line {
@@ -23,7 +24,12 @@ impl Model for Line {
 
     ghost Value = { Lined };
 
-    ghost view = { λ a. record { pairs = a.items.items; most = a.most } };
+    ghost use Rattle.std.specs.VecDeque.{deque_capacity};
+    ghost use Rattle.stack_timers.specs.Indexes.{IsKept, pair_entries};
+
+    ghost view = { λ a. record { pairs = a.items.items; most = a.standing.most } };
+
+    ghost invariant = { λ a. IsKept (deque_capacity a.items) a.standing (pair_entries a.items.items) };
 }
 
 /// Whether two pairs are the same.
@@ -31,18 +37,6 @@ pub fn is_same_pair(one: &Pair, other: &Pair) -> bool
     ensures { result ≡ same_pair one.now other.now }
 {
     one.local == other.local && one.remote == other.remote
-}
-
-/// Whether a pair is among others.
-fn stands_among(pairs: &[Pair], pair: &Pair) -> bool
-    ensures { result ≡ stands_in pair.now pairs.now }
-{
-    for one in pairs {
-        if is_same_pair(one, pair) {
-            return true;
-        }
-    }
-    false
 }
 
 /// The place of a pair.
@@ -63,8 +57,9 @@ impl Line {
     pub fn new(alloc: Global, most: usize) -> Result<Line, AllocError>
         ensures { IfOk result (λ a. a ≡ record { pairs = []; most = most }) }
     {
-        let items = Vec::with_capacity(alloc, most)?;
-        Ok(Line { most, items })
+        let items = VecDeque::with_capacity(alloc, most)?;
+        let standing = PairTable::new(alloc, most)?;
+        Ok(Line { items, standing })
     }
 
     /// How many stand in line.
@@ -80,10 +75,10 @@ impl Line {
         ensures left { self.new.pairs ≡ behind_first self.old.pairs }
         ensures most { self.new.most ≡ self.old.most }
     {
-        if self.items.is_empty() {
-            return None;
-        }
-        Some(self.items.remove(0))
+        let _count = self.standing.len();
+        let pair = self.items.pop_front()?;
+        let _standing = self.standing.remove(&pair);
+        Some(pair)
     }
 
     /// The pair stands at the end of the line, unless it stands in it, while there is room.
@@ -91,11 +86,11 @@ impl Line {
         ensures pairs { self.new.pairs ≡ lined self.old.most pair.now self.old.pairs }
         ensures most { self.new.most ≡ self.old.most }
     {
-        if stands_among(self.items.as_slice(), pair) || self.items.len() >= self.most {
+        if self.standing.get(pair).is_some() || self.standing.len() >= self.standing.most() {
             return;
         }
-        match self.items.push(*pair) {
-            Ok(()) => {}
+        match self.items.push_back(*pair) {
+            Ok(()) => self.standing.insert(*pair, ()),
             Err(_) => unreachable!(),
         }
     }
@@ -105,7 +100,11 @@ impl Line {
         ensures pairs { self.new.pairs ≡ without_pair pair.now self.old.pairs }
         ensures most { self.new.most ≡ self.old.most }
     {
-        match place_of(self.items.as_slice(), pair) {
+        let _count = self.standing.len();
+        if self.standing.remove(pair).is_none() {
+            return;
+        }
+        match place_of(self.items.make_contiguous(), pair) {
             Some(place) => {
                 let _pair = self.items.remove(place);
             }

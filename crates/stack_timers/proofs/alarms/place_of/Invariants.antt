@@ -1,7 +1,0 @@
-use Rattle.std.proofs.Common.{◌≡◌, drop}
-use Rattle.std.specs.List.{position_from}
-use Rattle.stack_timers.specs.Places.{is_of}
-use Rattle.stack_timers.proofs.alarms.place_of.Given as goal
-
-abbrev pub invariant-loop-i : goal.invariant-loop-i
-invariant-loop-i l = position_from (is_of l.pair) l.i (drop l.i l.alarms) ≡ position_from (is_of l.pair) 0 l.alarms
