@@ -1,5 +1,4 @@
 use Rattle.std.proofs.Common.{Ok, Err, refl}
-use Rattle.capture_stream.specs.declared.reader.CaptureStep.TheVariants as step
 use Rattle.capture_walk.specs.HasRead.{listed}
 use Rattle.capture_walk.specs.declared.hearer.Heard.TheVariants as heard
 use Rattle.capture_walk.specs.declared.hearer.HearHalt.TheVariants as hear_halt
