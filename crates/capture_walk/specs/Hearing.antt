@@ -22,14 +22,16 @@ Tells text out_before out_now (Err hear_halt.Write) = TellsPart text out_before 
 Tells text out_before out_now (Err hear_halt.Memory) = ⊥
 
 -- what one more packet adds to the text that is told was written (own)
-pub record Adds (told : List CapturePacket → List ℕ) (before : List CapturePacket) (p : CapturePacket)
+pub record Adds (told : List CapturePacket → List ℕ) (before : List CapturePacket)
+    (p : CapturePacket)
     (out_before out_now : Side) : Type 0 where
   pub text : List ℕ
   pub adds : told (before ++ p ∷ []) ≡ told before ++ text
   pub wrote : WasWritten text out_before out_now
 
 -- a write failed: of what it adds a proper front part was written (own)
-pub record Cuts (told : List CapturePacket → List ℕ) (before : List CapturePacket) (p : CapturePacket)
+pub record Cuts (told : List CapturePacket → List ℕ) (before : List CapturePacket)
+    (p : CapturePacket)
     (out_before out_now : Side) : Type 0 where
   pub text : List ℕ
   pub adds : told (before ++ p ∷ []) ≡ told before ++ text
@@ -38,8 +40,8 @@ pub record Cuts (told : List CapturePacket → List ℕ) (before : List CaptureP
   pub wrote : WasWritten (take n text) out_before out_now
   pub rose : Rose out_before out_now
 
--- what became of one more packet, heard after these, where this is told of packets, and the hearer now stands after
--- packets so, or stopped so at one after others (own)
+-- what became of one more packet, heard after these, where this is told of packets, and the hearer
+-- now stands after packets so, or stopped so at one after others (own)
 abbrev pub Hears : (told : List CapturePacket → List ℕ) → (stands : List CapturePacket → Type 0) →
     (stops : List CapturePacket → CapturePacket → Type 0) → List CapturePacket → CapturePacket →
     (out_before out_now : Side) → Result Heard HearHalt → Type 0

@@ -41,17 +41,18 @@ pub trait Hearer {
 
     /// Hears the packet that the reader shows, and writes what it adds to the text that is told.
     ///
-    /// Next: the hearer stands after it, and all that it adds was written. Done: the hearer stopped at it, and the
-    /// same was written. Write comes only where the sink's count of faults rose, with a proper front part of it
-    /// written; Memory for want of memory, with nothing of it written, or the whole.
+    /// Next: the hearer stands after it, and all that it adds was written. Done: the hearer stopped at it, and
+    /// the same was written. Write comes only where the sink's count of faults rose, with a proper front part
+    /// of it written; Memory for want of memory, with nothing of it written, or the whole.
     fn hear<O: Sink>(&mut self, shown: &CaptureReader, out: &mut O) -> Result<Heard, HearHalt>
         requires { IsSome shown.now.packet }
-        ensures { (q : Asked) (before : List CapturePacket) (p : CapturePacket) → shown.now.packet ≡ Some p → stands q self.old before →
-            Hears (told q) (stands q self.new) (stops q self.new) before p (O.side out.old) (O.side out.new) result };
+        ensures { (q : Asked) (before : List CapturePacket) (p : CapturePacket) → shown.now.packet ≡ Some p →
+            stands q self.old before → Hears (told q) (stands q self.new) (stops q self.new) before p
+            (O.side out.old) (O.side out.new) result };
 }
 
-/// Writes this text, as what a packet adds to the text that is told. Next where all of it was written; Write comes
-/// only where the sink's count of faults rose, with a proper front part of it written.
+/// Writes this text, as what a packet adds to the text that is told. Next where all of it was written; Write
+/// comes only where the sink's count of faults rose, with a proper front part of it written.
 pub fn tell<O: Sink>(text: &[u8], out: &mut O) -> Result<Heard, HearHalt>
     ensures { Tells text.now (O.side out.old) (O.side out.new) result }
 {

@@ -33,11 +33,11 @@ pub enum WalkHalt {
     Memory,
 }
 
-/// One step of a walk: reads the next record or block of the capture, and has the hearer hear the packet that it
-/// shows, if it shows one. None where the walk goes on.
+/// One step of a walk: reads the next record or block of the capture, and has the hearer hear the packet that
+/// it shows, if it shows one. None where the walk goes on.
 ///
-/// It begins and goes on only between two parts: all packets that were read were heard, and all that is told of them
-/// was written. So before the source is asked for more, nothing waits.
+/// It begins and goes on only between two parts: all packets that were read were heard, and all that is told of
+/// them was written. So before the source is asked for more, nothing waits.
 pub fn hear_next<H: Hearer, I: Source, O: Sink>(
     reader: &mut CaptureReader,
     hearer: &mut H,
@@ -49,9 +49,9 @@ pub fn hear_next<H: Hearer, I: Source, O: Sink>(
     ensures further { result ≡ Ok None → reader.old.counts.bytes < reader.new.counts.bytes }
     ensures within { result ≡ Ok None → reader.new.counts.bytes ≤ most_read }
     ensures hears { (q : H.Asked) (given : List ℕ) (shown : List CapturePacket) (first : Side) (empty : Side) →
-        Between (H.told q) (H.stands q hearer.old) reader.old given shown first (I.side input.old) empty (O.side out.old) →
-        (next : List ℕ) × HearsNext (H.told q) (H.stands q hearer.new) (H.stops q hearer.new) reader.new given shown next
-        first (I.side input.new) empty (O.side out.new) result }
+        Between (H.told q) (H.stands q hearer.old) reader.old given shown first (I.side input.old) empty
+        (O.side out.old) → (next : List ℕ) × HearsNext (H.told q) (H.stands q hearer.new) (H.stops q hearer.new)
+        reader.new given shown next first (I.side input.new) empty (O.side out.new) result }
 {
     match reader.next(input) {
         Ok(CaptureStep::Packet) => {}
@@ -69,16 +69,16 @@ pub fn hear_next<H: Hearer, I: Source, O: Sink>(
     }
 }
 
-/// Reads a capture, of which a new reader has read nothing, and has each packet heard before the next one is read, to
-/// the capture's end or to the packet at which the hearer stops.
+/// Reads a capture, of which a new reader has read nothing, and has each packet heard before the next one is
+/// read, to the capture's end or to the packet at which the hearer stops.
 ///
-/// Broken comes where the capture has this fault, whatever follows it, after the packets that were heard; Read only
-/// where the source's count of faults rose; TooLong only where it gave more than 2^63 bytes. With each of these all
-/// packets that were read were heard, and all that is told of them was written. Write comes only where the sink's
-/// count of faults rose, with a proper front part written of what is told of the last packet; Memory for want of
-/// memory, perhaps without what is told of the last packet. However it ends before the source's end, at most
-/// 16,842,776 bytes were taken past the last part that was read: 16,842,752 where that showed a packet, and with a
-/// header 24 more.
+/// Broken comes where the capture has this fault, whatever follows it, after the packets that were heard; Read
+/// only where the source's count of faults rose; TooLong only where it gave more than 2^63 bytes. With each of
+/// these all packets that were read were heard, and all that is told of them was written. Write comes only
+/// where the sink's count of faults rose, with a proper front part written of what is told of the last packet;
+/// Memory for want of memory, perhaps without what is told of the last packet. However it ends before the
+/// source's end, at most 16,842,776 bytes were taken past the last part that was read: 16,842,752 where that
+/// showed a packet, and with a header 24 more.
 pub fn walk<H: Hearer, I: Source, O: Sink>(
     reader: &mut CaptureReader,
     hearer: &mut H,

@@ -135,7 +135,8 @@ fn draw_counted<L: Ledger, I: Source, O: Sink>(
 /// packets that were read before is written, and nothing else. Write comes only where the sink's count of
 /// faults rose, with a front part of what is drawn of the packets that were read; of text all lines of those before
 /// the last one are in it. Memory comes for want of memory, and where a picture would have 2^32 lines or more: of
-/// text perhaps without the last packet and what is left out, of a picture with nothing written.
+/// text perhaps without the last packet and what is left out, of a picture with nothing written. With Broken, Read,
+/// TooLong, Memory and Write at most 16,842,776 bytes were taken past the last part of the capture that was read.
 pub fn draw_session<I: Source, O: Sink>(
     alloc: Global,
     asked: LadderRequest,

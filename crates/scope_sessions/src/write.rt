@@ -64,7 +64,8 @@ fn write_counted<O: Sink>(
 /// it gave more than 2^63 bytes; Write only where the sink's count of faults rose, with a front part of the
 /// last of the tables written; and Memory for want of memory, or where 2^64 - 1 packets of one kind are
 /// counted. With Read, TooLong and Memory only the tables were written that were due in front of the packets
-/// that were read, with Memory perhaps not that in front of the last one.
+/// that were read, with Memory perhaps not that in front of the last one. With Broken, Read, TooLong and Memory, and
+/// with Write in front of a packet, at most 16,842,776 bytes were taken past the last part that was read.
 pub fn write_sessions<I: Source, O: Sink>(
     alloc: Global,
     request: TableRequest,

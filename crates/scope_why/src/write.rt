@@ -31,8 +31,8 @@ fn write_answer<O: Sink>(answered: &Answered, out: &mut O) -> Result<bool, Judgi
 /// Writes why the check says what it says of the first packet of the number that is asked for in a capture:
 /// the lines that `book_why_texts` defines, judged by the tables of a key file as behind handshakes with the
 /// initial sequence numbers that lines give, and behind the packets in front of it; where no packet of the
-/// capture has the number, that. Nothing is read behind the packet, and what follows it doesn't matter. Ok where
-/// the whole answer was written: whether the packet passes.
+/// capture has the number, that. No packet after it is read, at most 16,842,752 bytes are taken past its part of the
+/// capture, and what follows it doesn't matter. Ok where the whole answer was written: whether the packet passes.
 ///
 /// Each given line that says something is `ADDRESS PORT ISN ADDRESS PORT ISN`: two sockets of one version of
 /// IP that differ, with addresses in their usual form, each with its initial sequence number.
@@ -41,7 +41,8 @@ fn write_answer<O: Sink>(answered: &Answered, out: &mut O) -> Result<bool, Judgi
 /// given lines are, and nothing was read. Broken comes where the capture has this fault and no packet in front of
 /// it has the number; Read only where the source's count of faults rose; TooLong only where it gave more than
 /// 2^63 bytes; Write only where the sink's count of faults rose, with a front part of the answer written; and
-/// Memory for want of memory. With all but Write nothing was written.
+/// Memory for want of memory. With all but Write nothing was written. With Broken, Read, TooLong and Memory at most
+/// 16,842,776 bytes were taken past the last part of the capture that was read.
 pub fn write_why<I: Source, O: Sink>(
     alloc: Global,
     request: WhyRequest,

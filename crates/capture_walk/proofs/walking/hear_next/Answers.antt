@@ -1,5 +1,4 @@
 use Rattle.std.proofs.Common.{Ok, Err, refl}
-use Rattle.capture_stream.specs.declared.reader.CaptureStep.TheVariants as step
 use Rattle.capture_walk.specs.HasRead.{listed}
 use Rattle.capture_walk.specs.declared.hearer.Heard.TheVariants as heard
 use Rattle.capture_walk.specs.declared.hearer.HearHalt.TheVariants as hear_halt
@@ -37,33 +36,41 @@ returns-in-Ok-Next-clause-hears g c = λ q given shown first empty between.
     let more = rw c.in-Ok-Packet.field-0-is at c.in-Ok-Packet.ensures.steps in
     let step = more.1 in
     let one = the_packet c.next.new.self.packet (c.in-Ok-Packet.ensures.shown (rw c.in-Ok-Packet.field-0-is refl)) in
-    let hears = rw c.in-Ok-Next.field-0-is at (c.in-Ok-Next.ensures q shown one.0 one.1 between.heard) in
-    (more.0, heard_next (g.H.Hearer.told q) (g.H.Hearer.stands q c.args.hearer.now) (g.H.Hearer.stands q c.hear.new.self) (g.H.Hearer.stops q c.hear.new.self) c.args.reader.now given more.0 shown _ _ _ _ _ between
-        c.next.new.self step.answers.0 step.answers.1 step.gave step.bytes step.bound one.0 one.1 _ (Ok heard.Next) hears)
+    let hears = rw c.in-Ok-Next.field-0-is at (c.in-Ok-Next.ensures q shown one.0 one.1 between.heard) in (
+      more.0,
+      heard_next (g.H.Hearer.told q) (g.H.Hearer.stands q c.args.hearer.now) (g.H.Hearer.stands q c.hear.new.self) (g.H.Hearer.stops q c.hear.new.self) c.args.reader.now given more.0 shown _ _ _ _ _ between
+          c.next.new.self step.answers.0 step.answers.1 step.gave step.bytes step.bound one.0 one.1 _ (Ok heard.Next) hears,
+    )
 
 pub returns-in-Ok-Done-clause-hears : goal.returns-in-Ok-Done-clause-hears
 returns-in-Ok-Done-clause-hears g c = λ q given shown first empty between.
     let more = rw c.in-Ok-Packet.field-0-is at c.in-Ok-Packet.ensures.steps in
     let step = more.1 in
     let one = the_packet c.next.new.self.packet (c.in-Ok-Packet.ensures.shown (rw c.in-Ok-Packet.field-0-is refl)) in
-    let hears = rw c.in-Ok-Done.field-0-is at (c.in-Ok-Done.ensures q shown one.0 one.1 between.heard) in
-    (more.0, heard_next (g.H.Hearer.told q) (g.H.Hearer.stands q c.args.hearer.now) (g.H.Hearer.stands q c.hear.new.self) (g.H.Hearer.stops q c.hear.new.self) c.args.reader.now given more.0 shown _ _ _ _ _ between
-        c.next.new.self step.answers.0 step.answers.1 step.gave step.bytes step.bound one.0 one.1 _ (Ok heard.Done) hears)
+    let hears = rw c.in-Ok-Done.field-0-is at (c.in-Ok-Done.ensures q shown one.0 one.1 between.heard) in (
+      more.0,
+      heard_next (g.H.Hearer.told q) (g.H.Hearer.stands q c.args.hearer.now) (g.H.Hearer.stands q c.hear.new.self) (g.H.Hearer.stops q c.hear.new.self) c.args.reader.now given more.0 shown _ _ _ _ _ between
+          c.next.new.self step.answers.0 step.answers.1 step.gave step.bytes step.bound one.0 one.1 _ (Ok heard.Done) hears,
+    )
 
 pub returns-in-Err-Write-clause-hears : goal.returns-in-Err-Write-clause-hears
 returns-in-Err-Write-clause-hears g c = λ q given shown first empty between.
     let more = rw c.in-Ok-Packet.field-0-is at c.in-Ok-Packet.ensures.steps in
     let step = more.1 in
     let one = the_packet c.next.new.self.packet (c.in-Ok-Packet.ensures.shown (rw c.in-Ok-Packet.field-0-is refl)) in
-    let hears = rw c.in-Err-Write.field-0-is at (c.in-Err-Write.ensures q shown one.0 one.1 between.heard) in
-    (more.0, heard_next (g.H.Hearer.told q) (g.H.Hearer.stands q c.args.hearer.now) (g.H.Hearer.stands q c.hear.new.self) (g.H.Hearer.stops q c.hear.new.self) c.args.reader.now given more.0 shown _ _ _ _ _ between
-        c.next.new.self step.answers.0 step.answers.1 step.gave step.bytes step.bound one.0 one.1 _ (Err hear_halt.Write) hears)
+    let hears = rw c.in-Err-Write.field-0-is at (c.in-Err-Write.ensures q shown one.0 one.1 between.heard) in (
+      more.0,
+      heard_next (g.H.Hearer.told q) (g.H.Hearer.stands q c.args.hearer.now) (g.H.Hearer.stands q c.hear.new.self) (g.H.Hearer.stops q c.hear.new.self) c.args.reader.now given more.0 shown _ _ _ _ _ between
+          c.next.new.self step.answers.0 step.answers.1 step.gave step.bytes step.bound one.0 one.1 _ (Err hear_halt.Write) hears,
+    )
 
 pub returns-in-Err-Memory-clause-hears : goal.returns-in-Err-Memory-clause-hears
 returns-in-Err-Memory-clause-hears g c = λ q given shown first empty between.
     let more = rw c.in-Ok-Packet.field-0-is at c.in-Ok-Packet.ensures.steps in
     let step = more.1 in
     let one = the_packet c.next.new.self.packet (c.in-Ok-Packet.ensures.shown (rw c.in-Ok-Packet.field-0-is refl)) in
-    let hears = rw c.in-Err-Memory.field-0-is at (c.in-Err-Memory.ensures q shown one.0 one.1 between.heard) in
-    (more.0, heard_next (g.H.Hearer.told q) (g.H.Hearer.stands q c.args.hearer.now) (g.H.Hearer.stands q c.hear.new.self) (g.H.Hearer.stops q c.hear.new.self) c.args.reader.now given more.0 shown _ _ _ _ _ between
-        c.next.new.self step.answers.0 step.answers.1 step.gave step.bytes step.bound one.0 one.1 _ (Err hear_halt.Memory) hears)
+    let hears = rw c.in-Err-Memory.field-0-is at (c.in-Err-Memory.ensures q shown one.0 one.1 between.heard) in (
+      more.0,
+      heard_next (g.H.Hearer.told q) (g.H.Hearer.stands q c.args.hearer.now) (g.H.Hearer.stands q c.hear.new.self) (g.H.Hearer.stops q c.hear.new.self) c.args.reader.now given more.0 shown _ _ _ _ _ between
+          c.next.new.self step.answers.0 step.answers.1 step.gave step.bytes step.bound one.0 one.1 _ (Err hear_halt.Memory) hears,
+    )

@@ -1,5 +1,4 @@
 use Rattle.std.proofs.Common.{◌≡◌, ℕ, ◌-◌, [], false, List}
-use Rattle.ao_base.specs.Outside.{Side}
 use Rattle.book_captures.specs.Captures.{CapturePacket}
 use Rattle.capture_walk.specs.Walks.{Between}
 use Rattle.capture_walk.proofs.walking.walk.Given as goal
