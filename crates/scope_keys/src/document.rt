@@ -10,16 +10,17 @@ use std::alloc::Global;
 use toml::Table;
 
 /// Why a text gave no document.
-#[derive(Clone, Copy)]
-pub(crate) enum Unread {
+#[derive(Clone, Copy, Debug)]
+pub enum Unread {
     /// From the byte with this index on it is no TOML, for this reason.
     NotToml(usize, TomlFault),
+    /// Out of memory.
     Memory,
 }
 
-/// The document that a text is; `NotToml` exactly where it is none.
+/// The document that a text is. `NotToml` comes only if it is none; `Memory` leaves open whether it is one.
 #[tactic(auto, using(key_table::proofs::TextLaws::document_read))]
-pub(crate) fn read_document(alloc: Global, text: &[u8]) -> Result<Table, Unread>
+pub fn read_document(alloc: Global, text: &[u8]) -> Result<Table, Unread>
     ensures document { IfOk result (λ t. document_of text.now ≡ Some (table_view t)) }
     ensures refused { IfErr result (Unreadable text.now) }
 {

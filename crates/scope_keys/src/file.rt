@@ -14,8 +14,9 @@ use key_table::{Table, TableFault, Tables};
 use scope_key_texts::{is_plain_text, push_finding_line, push_place, text_place};
 use std::alloc::{AllocError, Global};
 
-/// All that is found in a document with this fault. An error only for want of memory.
-pub(crate) fn findings(
+/// All that is found in a document that isn't read for this fault: what is wrong with its fields, or else, if nothing
+/// is, the two rows that overlap. An error only if memory runs out.
+pub fn findings(
     alloc: Global,
     document: &toml::Table,
     fault: TableFault,

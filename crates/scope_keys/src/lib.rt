@@ -12,4 +12,6 @@ mod report;
 mod seen;
 mod toml_fault;
 
+pub use document::{Unread, read_document};
+pub use file::findings;
 pub use report::answer_keys;

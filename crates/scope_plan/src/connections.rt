@@ -10,7 +10,7 @@ ghost use Rattle.scope_plan.specs.KeyFiles.{key_file_of};
 use crate::calendar::push_calendar;
 use crate::facing::Facing;
 use crate::findings::push_findings;
-use crate::key_file::KeyFile;
+use key_file::KeyFile;
 use crate::notes::push_notes;
 use crate::reconfiguring::push_reconfiguring;
 use ao_base::push_decimal;

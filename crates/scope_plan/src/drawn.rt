@@ -8,7 +8,7 @@ ghost use Rattle.draw_plan_svg.specs.Draws.{Draws};
 ghost use Rattle.scope_plan.specs.Plannings.{connection_as, framed_plan, lines_as};
 
 use crate::connections::{findings_by, has_none, push_connection};
-use crate::key_file::KeyFile;
+use key_file::KeyFile;
 use crate::planned::{Planned, Written};
 use book_base::{Bytes, Pair};
 use book_cmd_keys::Plan;

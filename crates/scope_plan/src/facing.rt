@@ -5,7 +5,7 @@ ghost use Rattle.book_scope_plan.specs.PlanTexts.{facing};
 ghost use Rattle.scope_plan.specs.Facings.{facing_of};
 ghost use Rattle.scope_plan.specs.KeyFiles.{key_file_of};
 
-use crate::key_file::KeyFile;
+use key_file::KeyFile;
 use book_base::{End, Pair};
 use book_cmd_keys::Plan;
 use draw_plan::Connected;

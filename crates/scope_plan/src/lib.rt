@@ -11,7 +11,6 @@ mod drawn;
 mod facing;
 mod findings;
 mod gap;
-mod key_file;
 mod lifetimes;
 mod notes;
 mod planned;

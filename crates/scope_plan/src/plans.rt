@@ -15,7 +15,7 @@ ghost use Rattle.scope_plan.specs.Plannings.{no_plan, planned_answer, planned_fr
 use crate::connection::read_connection;
 use crate::connections::changes_key;
 use crate::drawn::{framed, push_connection_as};
-use crate::key_file::KeyFile;
+use key_file::KeyFile;
 use crate::planned::Planned;
 use book_base::{Bytes, Pair};
 use book_cmd_keys::Plan;
