@@ -1,0 +1,4 @@
+pub mod Checking
+pub mod Reading
+pub mod Tallies
+pub mod Writing
