@@ -213,4 +213,6 @@ bad_step before interfaces had why b0 now a b given place kept size opens later 
     let here : to_come before (before.kept ++ given) ≡ only_fault (record { cause = why; number = 0; byte = 0 }) = rw (none, text, opens.is.1) refl in
     let there : to_come before ((before.kept ++ given) ++ told b.bytes) ≡ only_fault (record { cause = why; number = 0; byte = 0 }) = rw (none, text, opens.is.2) refl in
     let few : length later.kept ≤ 16842752 = rw same (omega arith) in
-    record { gave = opens.gave; bytes = opens.bytes; bound = few; answers = (stops, here, there) }
+    let taken = opens.few in
+    let ahead : length (before.kept ++ given) ≤ 16842776 = rw text (omega arith) in
+    record { gave = opens.gave; bytes = opens.bytes; bound = few; few = ahead; answers = (stops, here, there) }

@@ -27,11 +27,12 @@ opened_before format interfaces buffer a fits = record {
   bytes = All-nil IsByte;
   size = refl;
   fits = fits;
+  few = rw (append-nil buffer.kept) fits;
   is = (refl, tt, sym (append-nil buffer.kept), omega arith);
 }
 
 pub opened_fault : (interfaces : List Interface) (before now : Buffered) (a b : Side) (given : List ℕ) → Fills 24 before now a b given filled.Fault → Opens None interfaces before now a b given opening.Fault
-opened_fault interfaces before now a b given fills = record { gave = fills.gave; bytes = fills.bytes; size = fills.size; fits = fills.fits; is = fills.fills }
+opened_fault interfaces before now a b given fills = record { gave = fills.gave; bytes = fills.bytes; size = fills.size; fits = fills.fits; few = rw (← fills.kept) fills.fits; is = fills.fills }
 
 opened_at : (interfaces : List Interface) (before middle now : Buffered) (a b : Side) (given : List ℕ) (how : Filled) (front : FileFront) → interfaces ≡ [] → Fills 24 before middle a b given how
     → IsOpenedHere middle now (opening.At front) → Opens None interfaces before now a b given (opening.At front)
@@ -44,6 +45,7 @@ opened_at interfaces before middle now a b given how front none fills here =
       bytes = fills.bytes;
       size = here.4 ∙ fills.size;
       fits = omega arith;
+      few = rw (← fills.kept) (omega arith);
       is = (
         ap capture_opened (sym fills.kept) ∙ (here.0 ∙ ap (λ (known : List Interface). Ok (record { place = record { format = front.format; interfaces = known }; size = front.size })) (sym none)),
         rw (← fills.kept) here.1,
@@ -56,11 +58,13 @@ opened_bad : (interfaces : List Interface) (before middle now : Buffered) (a b :
     → IsOpenedHere middle now (opening.Bad why) → capture_opened (middle.kept ++ told b.bytes) ≡ Err why → Opens None interfaces before now a b given (opening.Bad why)
 opened_bad interfaces before middle now a b given how why fills here all =
     let fits = fills.fits in
+    let room = ap (λ (x : Buffered). x.size) here.1 in
     record {
       gave = fills.gave;
       bytes = fills.bytes;
       size = ap (λ (x : Buffered). x.size) here.1 ∙ fills.size;
       fits = rw here.1 fits;
+      few = rw (← fills.kept) (omega arith);
       is = (refl, ap capture_opened (sym fills.kept) ∙ here.0, ap (λ (xs : List ℕ). capture_opened (xs ++ told b.bytes)) (sym fills.kept) ∙ all);
     }
 

@@ -47,6 +47,7 @@ pub record Opens (had : Option Format) (interfaces : List Interface) (before now
   pub bytes : All IsByte given
   pub size : now.size ≡ before.size
   pub fits : length now.kept ≤ now.size
+  pub few : length (before.kept ++ given) ≤ now.size
   pub is : IsOpened had interfaces (before.kept ++ given) now source_before source_now result
 
 -- what reading the front of what is kept gives

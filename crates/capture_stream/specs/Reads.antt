@@ -21,6 +21,11 @@ most_read = 9223372036854775808
 abbrev pub most_buffered : ℕ
 most_buffered = 16842752
 
+-- the most bytes that are taken past the last part that was read: those that are kept, and in front
+-- of the first part those of a file's header
+abbrev pub most_ahead : ℕ
+most_ahead = 16842776
+
 -- a reader of captures is: the bytes that it took and hasn't passed, where it stands in the file, if
 -- behind the front, how far it is, how many blocks it passed over, whether a call has answered
 -- anything but Packet and Block, and the packet of the last call, where that answered Packet
@@ -131,6 +136,7 @@ pub record Steps (before now : Reading) (source_before source_now : Side) (given
   pub gave : Gave given source_before source_now
   pub bytes : All IsByte given
   pub bound : length now.kept ≤ most_buffered
+  pub few : length (before.kept ++ given) ≤ most_ahead
   pub answers : Answers before now source_before source_now (before.kept ++ given) result
 
 -- the answer is the next packet of what is to come, or its end: where the source had these bytes left,

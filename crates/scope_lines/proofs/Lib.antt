@@ -1,4 +1,2 @@
 pub mod Lines
-pub mod Showing
-pub mod Taken
 pub mod Walk

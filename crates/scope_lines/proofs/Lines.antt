@@ -11,9 +11,7 @@ use Rattle.book_captures.specs.Captures.{CapturePacket, frame_datagram}
 use Rattle.book_scope.specs.PacketLines.{line_by, packet_line}
 use Rattle.capture_reader.specs.declared.frames.FoundDatagram.{FoundDatagram}
 use Rattle.capture_reader.specs.Found.{Gives, seen}
-use Rattle.scope_lines.specs.declared.write.LineHalt.{LineHalt}
-use Rattle.scope_lines.specs.declared.write.LineHalt.TheVariants as line_halt
-use Rattle.scope_lines.specs.Writes.{WritesBytes, WritesPacket, found_in}
+use Rattle.scope_lines.specs.Writes.{found_in}
 
 -- a slice of a slice's end
 pub end_taken : (n at : ℕ) (xs : List ℕ) → at ≤ length xs → n ≡ min 65575 (length (take (length xs - at) (drop at xs))) → take n (take (length xs - at) (drop at xs)) ≡ take 65575 (drop at xs)
@@ -37,16 +35,6 @@ pub line_done : (packet : Option CapturePacket) (number : ℕ) (time : Option �
     → IfSome packet (λ p. line ≡ packet_line p ++ 10 ∷ [])
 line_done None number time frame found line number_is time_is frame_is gives is = tt
 line_done (Some p) number time frame found line number_is time_is frame_is gives is = is ∙ ap (λ xs. xs ++ 10 ∷ []) (line_of p number time frame found number_is time_is frame_is gives)
-
--- it was written, or a part of it
-pub bytes_of_packet : (packet : Option CapturePacket) (line : List ℕ) (b c : Side) (result : Result (Unit {0}) LineHalt) → IsSome packet → IfSome packet (λ p. line ≡ packet_line p ++ 10 ∷ []) → WritesBytes line b c result → WritesPacket packet b c result
-bytes_of_packet None line b c result some is wrote = let bad : false ≡ true = some in absurd (cc)
-bytes_of_packet (Some p) line b c result some is wrote = rw is at wrote
-
--- memory ran out for it
-pub none_of_packet : (packet : Option CapturePacket) (b : Side) → IsSome packet → WritesPacket packet b b (Err line_halt.Memory)
-none_of_packet None b some = let bad : false ≡ true = some in absurd (cc)
-none_of_packet (Some p) b some = took_none b
 
 -- the line of a datagram that was found is that of its bytes with those behind it
 pub stored_line : (number t : ℕ) (time : Option ℕ) (frame : List ℕ) (d : FoundDatagram) (found : Result FoundDatagram Skipped) (bytes : List ℕ) → time ≡ Some t → found ≡ Ok d → d.first ≤ d.after → bytes ≡ take 65575 (drop d.first frame)

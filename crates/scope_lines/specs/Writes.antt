@@ -7,32 +7,16 @@ use Rattle.book_captures.specs.declared.reasons.Skipped.{Skipped}
 use Rattle.book_captures.specs.Frames.{Datagram}
 use Rattle.capture_reader.specs.declared.frames.FoundDatagram.{FoundDatagram}
 use Rattle.capture_reader.specs.Found.{seen}
-use Rattle.book_captures.specs.Captures.{CapturePacket, Capture, capture_of}
+use Rattle.book_captures.specs.Captures.{CapturePacket, capture_of}
 use Rattle.book_scope.specs.PacketLines.{packet_line, packet_lines}
 use Rattle.book_base.specs.Hexadecimal.{IsByte}
-use Rattle.capture_stream.specs.Reads.{Reading, most_read, most_buffered, to_come}
+use Rattle.capture_stream.specs.Reads.{most_read, most_buffered}
 use Rattle.scope_lines.specs.declared.write.LinesHalt.{LinesHalt}
 use Rattle.scope_lines.specs.declared.write.LinesHalt.TheVariants as halt
-use Rattle.scope_lines.specs.declared.write.LineHalt.{LineHalt}
-use Rattle.scope_lines.specs.declared.write.LineHalt.TheVariants as line_halt
-
--- these packets, with so many blocks passed over, in front of others (own)
-abbrev pub shown_before : List CapturePacket → ℕ → Capture → Capture
-shown_before shown passed others = record {
-  packets = shown ++ others.packets;
-  passed = passed + others.passed;
-  fault = others.fault;
-}
-
--- these packets were read, and no others: they are those of the bytes in front, and whatever follows
--- is read by a reader that stands there (own)
-pub record HasRead (given : List ℕ) (read : List CapturePacket) : Type 0 where
-  pub front : List ℕ
-  pub rest : List ℕ
-  pub split : given ≡ front ++ rest
-  pub reader : Reading
-  pub goes_on : (more : List ℕ) →
-      capture_of (front ++ more) ≡ shown_before read reader.passed (to_come reader more)
+use Rattle.capture_walk.specs.HasRead.{HasRead}
+use Rattle.capture_walk.specs.declared.walking.WalkEnd.{WalkEnd}
+use Rattle.capture_walk.specs.declared.walking.WalkHalt.{WalkHalt}
+use Rattle.capture_walk.specs.declared.walking.WalkHalt.TheVariants as walk_halt
 
 -- the whole capture was read, and the lines of all its packets written (own)
 pub record Finishes (given : List ℕ) (source_now out_before out_now : Side) : Type 0 where
@@ -41,7 +25,7 @@ pub record Finishes (given : List ℕ) (source_now out_before out_now : Side) : 
   pub wrote : WasWritten (packet_lines (capture_of given).packets) out_before out_now
 
 -- the capture has this fault, whatever follows in the source: the lines of the packets before it
--- were written (own)
+-- were written, and little more was taken than their parts (own)
 pub record Refuses (given : List ℕ) (source_now out_before out_now : Side) (fault : CaptureFault)
     : Type 0 where
   pub has_read : HasRead given (capture_of given).packets
@@ -49,7 +33,8 @@ pub record Refuses (given : List ℕ) (source_now out_before out_now : Side) (fa
   pub all : capture_of (given ++ told source_now.bytes) ≡ capture_of given
   pub wrote : WasWritten (packet_lines (capture_of given).packets) out_before out_now
 
--- it ended between two packets: the lines of all packets before were written (own)
+-- it ended between two packets: the lines of all packets before were written, and little more was
+-- taken than their parts (own)
 pub record Stops (given : List ℕ) (out_before out_now : Side) : Type 0 where
   pub read : List CapturePacket
   pub has_read : HasRead given read
@@ -100,24 +85,14 @@ pub record Writes (given : List ℕ) (source_before source_now out_before out_no
   pub bytes : All IsByte given
   pub ends : Ends given source_before source_now out_before out_now result
 
--- a front part of this line was written
-pub record BreaksLine (line : List ℕ) (out_before out_now : Side) : Type 0 where
-  pub n : ℕ
-  pub not_all : n < length line
-  pub wrote : WasWritten (take n line) out_before out_now
-  pub rose : Rose out_before out_now
-
--- what became of this line
-abbrev pub WritesBytes : List ℕ → Side → Side → Result (Unit {0}) LineHalt → Type 0
-WritesBytes line out_before out_now (Ok done) = WasWritten line out_before out_now
-WritesBytes line out_before out_now (Err line_halt.Write) = BreaksLine line out_before out_now
-WritesBytes line out_before out_now (Err line_halt.Memory) = WasWritten [] out_before out_now
-
--- what became of the line of the packet that is shown
-abbrev pub WritesPacket : Option CapturePacket → Side → Side → Result (Unit {0}) LineHalt → Type 0
-WritesPacket None out_before out_now result = ⊥
-WritesPacket (Some p) out_before out_now result =
-    WritesBytes (packet_line p ++ 10 ∷ []) out_before out_now result
+-- how the lines end where the walk ended so
+abbrev pub lines_ended : Result WalkEnd WalkHalt → Result (Unit {0}) LinesHalt
+lines_ended (Ok how) = Ok tt
+lines_ended (Err (walk_halt.Broken fault)) = Err (halt.Broken fault)
+lines_ended (Err walk_halt.TooLong) = Err halt.TooLong
+lines_ended (Err walk_halt.Read) = Err halt.Read
+lines_ended (Err walk_halt.Write) = Err halt.Write
+lines_ended (Err walk_halt.Memory) = Err halt.Memory
 
 -- the datagram that was found in this frame
 abbrev pub found_in : List ℕ → Result FoundDatagram Skipped → Result Datagram Skipped

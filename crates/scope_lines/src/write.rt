@@ -1,12 +1,12 @@
 //! The lines of a capture, each written before the next packet is read.
-ghost use Rattle.std.specs.Prelude.{◌≡◌, ℕ, List, IsSome};
+ghost use Rattle.std.specs.Prelude.{◌≡◌, ℕ, List};
 ghost use Rattle.ao_base.specs.Outside.{Side};
-ghost use Rattle.capture_stream.specs.Reads.{new_reading};
-ghost use Rattle.scope_lines.specs.Writes.{Writes, WritesBytes, WritesPacket};
+ghost use Rattle.scope_lines.specs.Writes.{Writes, lines_ended};
 
 use crate::line::print_line;
-use ao_base::{Failed, Sink, Source, write_all};
-use capture_stream::{CaptureFault, CaptureHalt, CaptureReader, CaptureStep};
+use ao_base::{Sink, Source};
+use capture_stream::{CaptureFault, CaptureReader};
+use capture_walk::{HearHalt, Heard, Hearer, WalkEnd, WalkHalt, tell, walk};
 use std::alloc::Global;
 
 /// Why not the lines of a whole capture were written.
@@ -24,74 +24,54 @@ pub enum LinesHalt {
     Memory,
 }
 
-/// Why a packet's line wasn't written.
-#[derive(Clone, Copy)]
-pub(crate) enum LineHalt {
-    Write,
-    Memory,
+/// Writes the line of each packet that it hears. It keeps the room for one line.
+#[derive(Drop)]
+struct LineWriter {
+    line: Vec<u8>,
 }
 
-// Writes these bytes.
-fn write_bytes<O: Sink>(bytes: &[u8], out: &mut O) -> Result<(), LineHalt>
-    ensures { WritesBytes bytes.now (O.side out.old) (O.side out.new) result }
-{
-    match write_all(out, bytes) {
-        Ok(()) => Ok(()),
-        Err(Failed) => Err(LineHalt::Write),
+impl Hearer for LineWriter {
+    ghost use Rattle.book_scope.specs.PacketLines.{packet_lines};
+
+    ghost Asked = { Unit {0} };
+
+    ghost told = { λ q. packet_lines };
+
+    ghost stands = { λ q writer packets. Unit {0} };
+
+    ghost stops = { λ q writer packets last. ⊥ };
+
+    fn hear<O: Sink>(&mut self, shown: &CaptureReader, out: &mut O) -> Result<Heard, HearHalt> {
+        match print_line(&mut self.line, shown) {
+            Ok(()) => tell(self.line.as_slice(), out),
+            Err(_) => Err(HearHalt::Memory),
+        }
     }
 }
 
-// Writes the line of the packet that the reader shows.
-fn write_packet<O: Sink>(
-    reader: &CaptureReader,
-    line: &mut Vec<u8>,
-    out: &mut O,
-) -> Result<(), LineHalt>
-    requires { IsSome reader.now.packet }
-    ensures { WritesPacket reader.now.packet (O.side out.old) (O.side out.new) result }
+// How the lines end where the walk ended so.
+fn ended(walked: Result<WalkEnd, WalkHalt>) -> Result<(), LinesHalt>
+    ensures { result ≡ lines_ended walked }
 {
-    match print_line(line, reader) {
-        Ok(()) => write_bytes(line.as_slice(), out),
-        Err(_) => Err(LineHalt::Memory),
-    }
-}
-
-// Writes the line of each packet that a new reader shows, before the next packet is read.
-fn write_each<I: Source, O: Sink>(
-    reader: &mut CaptureReader,
-    line: &mut Vec<u8>,
-    input: &mut I,
-    out: &mut O,
-) -> Result<(), LinesHalt>
-    requires { reader.old ≡ new_reading }
-    ensures { (given : List ℕ) ×
-        Writes given (I.side input.old) (I.side input.new) (O.side out.old) (O.side out.new) result }
-{
-    'parts: loop {
-        match reader.next(input) {
-            Ok(CaptureStep::Packet) => {}
-            Ok(CaptureStep::Block) => continue 'parts,
-            Ok(CaptureStep::End) => return Ok(()),
-            Err(CaptureHalt::Read) => return Err(LinesHalt::Read),
-            Err(CaptureHalt::TooLong) => return Err(LinesHalt::TooLong),
-            Err(CaptureHalt::Broken(fault)) => return Err(LinesHalt::Broken(fault)),
-        }
-        match write_packet(reader, line, out) {
-            Ok(()) => {}
-            Err(LineHalt::Write) => return Err(LinesHalt::Write),
-            Err(LineHalt::Memory) => return Err(LinesHalt::Memory),
-        }
+    match walked {
+        Ok(_) => Ok(()),
+        Err(WalkHalt::Broken(fault)) => Err(LinesHalt::Broken(fault)),
+        Err(WalkHalt::TooLong) => Err(LinesHalt::TooLong),
+        Err(WalkHalt::Read) => Err(LinesHalt::Read),
+        Err(WalkHalt::Write) => Err(LinesHalt::Write),
+        Err(WalkHalt::Memory) => Err(LinesHalt::Memory),
     }
 }
 
 /// Writes the line of each packet of a capture, in its order, before the next packet is read. Ok at the
 /// capture's end.
 ///
-/// Broken comes where the capture has this fault, behind the packets whose lines were written; Read only
+/// Broken comes where the capture has this fault, after the packets whose lines were written; Read only
 /// where the source's count of faults rose; TooLong only where it gave more than 2^63 bytes; Write only
-/// where the sink's count of faults rose, with a front part of the last packet's line written; and Memory
-/// for want of memory, perhaps without the line of the last packet. With each the lines of all packets that
-/// were read before are written, and no others.
+/// where the sink's count of faults rose, with a proper front part of the last packet's line written; and Memory
+/// where memory ran out, perhaps without the line of the last packet. With each the lines of all packets that
+/// were read before are written, and no others; and at most 16,842,776 bytes were taken past the last part of
+/// the capture that was read, after a packet whose line wasn't written whole at most 16,842,752.
 pub fn write_lines<I: Source, O: Sink>(
     alloc: Global,
     input: &mut I,
@@ -103,5 +83,8 @@ pub fn write_lines<I: Source, O: Sink>(
         Ok(reader) => reader,
         Err(_) => return Err(LinesHalt::Memory),
     };
-    write_each(&mut reader, &mut Vec::new(alloc), input, out)
+    let mut writer = LineWriter {
+        line: Vec::new(alloc),
+    };
+    ended(walk(&mut reader, &mut writer, input, out))
 }

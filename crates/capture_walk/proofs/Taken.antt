@@ -11,17 +11,9 @@ use Rattle.book_captures.specs.Parts.{PartSaid}
 use Rattle.book_captures.specs.Captures.{CapturePacket, capture_of}
 use Rattle.capture_stream.specs.declared.reader.CaptureStep.TheVariants as step
 use Rattle.capture_stream.specs.declared.reader.CaptureHalt.TheVariants as stream_halt
-use Rattle.capture_stream.specs.Reads.{Reading, most_read, new_reading, ShowsNone, Passes, Steps}
-use Rattle.scope_lines.specs.Writes.{HasRead}
-use Rattle.scope_lines.proofs.Showing.{HasShown, listed, none_listed, read_before, read_now, shown_all, shown_more, shown_none}
-
--- these bytes were given, and these packets shown
-pub record HasTaken (reader : Reading) (given : List ℕ) (shown : List CapturePacket) (source_before source_now : Side) : Type 0 where
-  pub gave : Gave given source_before source_now
-  pub bytes : All IsByte given
-  pub shows : HasShown reader given shown
-  pub within : reader.counts.bytes ≤ most_read
-  pub going : reader.over ≡ false
+use Rattle.capture_stream.specs.Reads.{Reading, most_ahead, most_buffered, most_read, new_reading, ShowsNone, Passes, Steps}
+use Rattle.capture_walk.specs.HasRead.{HasRead, HasShown, HasTaken, listed}
+use Rattle.capture_walk.proofs.Showing.{none_listed, read_before, read_now, shown_all, shown_more, shown_none}
 
 pub all_none : All IsByte []
 all_none = All-from_get_or IsByte [] 0 (λ i within. absurd (omega arith))
@@ -60,8 +52,8 @@ module _ {before : Reading} {given : List ℕ} {shown : List CapturePacket} {a b
   bytes_all next bytes = All-append IsByte given next taken.bytes bytes
 
   -- what was read, where that call stopped
-  pub has_read : (next : List ℕ) → HasRead (given ++ next) shown
-  has_read next = read_before before given next shown taken.shows
+  pub has_read : (next : List ℕ) → length (before.kept ++ next) ≤ most_ahead → HasRead (given ++ next) shown
+  has_read next few = read_before before given next shown taken.shows few
 
   -- the capture's end
   pub all_ended : {now : Reading} {c : Side} {next : List ℕ} → Steps before now b c next (Ok step.End) → capture_of (given ++ next) ≡ record { packets = shown; passed = before.passed; fault = None }
@@ -97,18 +89,18 @@ module _ {before : Reading} {given : List ℕ} {shown : List CapturePacket} {a b
       omega arith
 
   -- one more part was read
-  pub shows_more : (next : List ℕ) {now : Reading} {said : PartSaid} → Passes before now (before.kept ++ next) said → HasShown now (given ++ next) (shown ++ listed now.packet)
-  shows_more next {now} {said} passes = shown_more before given next shown taken.shows now said passes
+  pub shows_more : (next : List ℕ) {now : Reading} {said : PartSaid} → Passes before now (before.kept ++ next) said → length now.kept ≤ most_buffered → HasShown now (given ++ next) (shown ++ listed now.packet)
+  shows_more next {now} {said} passes near = shown_more before given next shown taken.shows now said passes near
 
-  abbrev pub read_more : (next : List ℕ) {now : Reading} {said : PartSaid} → Passes before now (before.kept ++ next) said → HasRead (given ++ next) (shown ++ listed now.packet)
-  read_more next {now} passes = read_now now (given ++ next) (shown ++ listed now.packet) (shows_more next passes)
+  abbrev pub read_more : (next : List ℕ) {now : Reading} {said : PartSaid} → Passes before now (before.kept ++ next) said → length now.kept ≤ most_buffered → HasRead (given ++ next) (shown ++ listed now.packet)
+  read_more next {now} passes near = read_now now (given ++ next) (shown ++ listed now.packet) (shows_more next passes near)
 
-  pub taken_more : {next : List ℕ} {c : Side} {now : Reading} {said : PartSaid} → Gave next b c → All IsByte next → Passes before now (before.kept ++ next) said
+  pub taken_more : {next : List ℕ} {c : Side} {now : Reading} {said : PartSaid} → Gave next b c → All IsByte next → Passes before now (before.kept ++ next) said → length now.kept ≤ most_buffered
       → HasTaken now (given ++ next) (shown ++ listed now.packet) a c
-  taken_more {next} gave bytes passes = record {
+  taken_more {next} gave bytes passes near = record {
     gave = gave_all gave;
     bytes = bytes_all next bytes;
-    shows = shows_more next passes;
+    shows = shows_more next passes near;
     within = passes.within;
     going = passes.going;
   }

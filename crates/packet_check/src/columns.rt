@@ -9,7 +9,7 @@ use ao_base::push_decimal;
 use book_base::Socket;
 use book_sessions::KeyIds;
 use capture_listener::key_ids;
-use scope_sessions::{push_host, push_time};
+use scope_texts::{push_address, push_instant};
 use std::alloc::AllocError;
 use tcp_segment::Datagram;
 use text_lines::{push_number, push_text};
@@ -29,7 +29,10 @@ pub(crate) fn push_front(
     push_decimal(out, number)?;
     match time {
         None => push_text(out, b"-"),
-        Some(time) => push_time(out, time / NANOSECONDS),
+        Some(time) => {
+            out.push(b' ')?;
+            push_instant(out, time / NANOSECONDS)
+        }
     }
 }
 
@@ -47,7 +50,8 @@ fn push_id(out: &mut Vec<u8>, id: Option<u8>) -> Result<(), AllocError>
 fn push_end(out: &mut Vec<u8>, socket: &Socket) -> Result<(), AllocError>
     ensures { OnOk result (out.new.items ≡ out.old.items ++ spaced (usual_address_text socket.now.address ∷ decimal socket.now.port ∷ [])) }
 {
-    push_host(out, &socket.address)?;
+    out.push(b' ')?;
+    push_address(out, &socket.address)?;
     push_number(out, u64::from(socket.port))
 }
 

@@ -3,7 +3,7 @@ ghost use Rattle.std.specs.Prelude.{◌≡◌, ◌≤◌, ℕ, IfOk, IsSome, Som
 ghost use Rattle.book_captures.specs.Captures.{CapturePacket};
 ghost use Rattle.book_sessions.specs.Sessions.{captured_by, captured_of_packet};
 ghost use Rattle.scope_lines.specs.Writes.{found_in};
-ghost use Rattle.scope_check.specs.Checking.{stored_as};
+ghost use Rattle.packet_check.specs.Checking.{stored_as};
 
 use book_sessions::PassedOver;
 use capture_reader::FoundDatagram;

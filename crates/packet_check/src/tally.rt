@@ -4,7 +4,7 @@ ghost use Rattle.book_lines.specs.Texts.{spaced};
 ghost use Rattle.book_scope_check.specs.declared.class.PacketClass.{PacketClass};
 ghost use Rattle.book_scope_check.specs.CheckedLines.{are_amiss, is_amiss_class, is_foreign_class, is_other_class};
 ghost use Rattle.book_scope_check.specs.CheckedLines.{is_passing_class, is_refused_class, total_line};
-ghost use Rattle.scope_check.specs.Tallies.{Tallies};
+ghost use Rattle.packet_check.specs.Tallies.{Tallies};
 
 use crate::class::is_foreign;
 use ao_base::push_decimal;

@@ -7,7 +7,8 @@ ghost use Rattle.capture_check.specs.Answers.{Says};
 
 use book_sessions::PassedOver;
 use capture_check::{CheckLine, push_check_line};
-use scope_sessions::push_passed;
+use scope_lines::push_reason;
+use segment_words::push_fault_text;
 use std::alloc::{AllocError, Global};
 use text_lines::{push_newline, push_text};
 
@@ -29,7 +30,18 @@ pub(crate) fn push_said(
     }
 }
 
-/// Puts why a packet is passed over behind `out`. Where memory runs out a part of it may stand there.
+// Puts why a packet is passed over behind `out`.
+fn push_passed(out: &mut Vec<u8>, why: PassedOver) -> Result<(), AllocError>
+    ensures { OnOk result (out.new.items ≡ out.old.items ++ passed_text why) }
+{
+    match why {
+        PassedOver::NoDatagram(why) => push_reason(out, why),
+        PassedOver::NoTime => out.extend_from_slice(b"no time"),
+        PassedOver::Faulty(fault) => push_fault_text(out, fault),
+    }
+}
+
+/// Puts that a packet is passed over, and why, behind `out`. Where memory runs out a part of it may stand there.
 pub(crate) fn push_other(out: &mut Vec<u8>, why: PassedOver) -> Result<(), AllocError>
     ensures { OnOk result (out.new.items ≡ out.old.items ++ (spaced (codes "other" ∷ passed_text why ∷ []) ++ 10 ∷ [])) }
 {

@@ -12,7 +12,7 @@ use Rattle.book_scope_check.specs.CheckedLines.{checked_line, content_texts}
 use Rattle.book_scope_check.specs.CheckedPackets.{CheckedContent, checked_content, checked_packet, class_of, held_after}
 use Rattle.capture_check.specs.declared.flows.Flows.{Flows}
 use Rattle.capture_check.specs.Checkers.{StandsFor}
-use Rattle.scope_check.specs.declared.shown.StoredBytes.{StoredBytes}
+use Rattle.packet_check.specs.declared.shown.StoredBytes.{StoredBytes}
 
 -- what a packet of this number has
 abbrev pub stored_as : ℕ → Result StoredBytes PassedOver → Result Stored PassedOver

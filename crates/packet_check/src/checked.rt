@@ -8,7 +8,7 @@ ghost use Rattle.book_sessions.specs.CutOff.{cut_segment};
 ghost use Rattle.book_sessions.specs.Sessions.{judged_of};
 ghost use Rattle.book_scope_check.specs.CheckedPackets.{OfNothing, checked_fault};
 ghost use Rattle.capture_check.specs.Checkers.{StandsFor};
-ghost use Rattle.scope_check.specs.Checking.{ChecksAs, ChecksPacket, SaysContent, stored_as};
+ghost use Rattle.packet_check.specs.Checking.{ChecksAs, ChecksPacket, SaysContent, stored_as};
 
 use crate::class::{class_by, class_without, is_foreign_segment};
 use crate::columns::{push_columns, push_dashes, push_front};

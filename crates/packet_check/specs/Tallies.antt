@@ -3,7 +3,7 @@ use Rattle.std.specs.Prelude.{◌≡◌, List}
 use Rattle.std.specs.List.{list_any}
 use Rattle.book_scope_check.specs.declared.class.PacketClass.{PacketClass}
 use Rattle.book_scope_check.specs.CheckedLines.{class_count, is_amiss_class, is_foreign_class, is_other_class, is_passing_class, is_refused_class}
-use Rattle.scope_check.specs.declared.tally.Tally.{Tally}
+use Rattle.packet_check.specs.declared.tally.Tally.{Tally}
 
 -- the tally is that of packets that count as these
 pub record Tallies (t : Tally) (classes : List PacketClass) : Type 0 where

@@ -5,20 +5,8 @@ use Rattle.book_captures.specs.declared.capture_parts.CaptureFault.{CaptureFault
 use Rattle.book_captures.specs.declared.capture_parts.Cause.{Cause}
 use Rattle.book_captures.specs.Parts.{PartSaid, Shows, Describes, Neither, OpenedFile, capture_opened}
 use Rattle.book_captures.specs.Captures.{CapturePacket, Capture, PartCounts, with_said, capture_at, capture_behind, capture_of}
-use Rattle.capture_stream.specs.Reads.{Reading, new_reading, to_come, to_come_by, packet_shown, passed_by, ShowsNone, Passes}
-use Rattle.scope_lines.specs.Writes.{HasRead, shown_before}
-
--- the packet that is shown, if one is
-abbrev pub listed : Option CapturePacket → List CapturePacket
-listed None = []
-listed (Some p) = p ∷ []
-
--- the reader took these bytes in all and showed these packets: they are the packets of the bytes in front of those that it keeps, whatever follows
-pub record HasShown (reading : Reading) (given : List ℕ) (shown : List CapturePacket) : Type 0 where
-  pub front : List ℕ
-  pub split : given ≡ front ++ reading.kept
-  pub comes : (more : List ℕ) → capture_of (front ++ more) ≡ shown_before shown reading.passed (to_come reading more)
-  pub bytes : reading.counts.bytes ≡ length front
+use Rattle.capture_stream.specs.Reads.{Reading, most_ahead, most_buffered, new_reading, to_come, to_come_by, packet_shown, passed_by, ShowsNone, Passes}
+use Rattle.capture_walk.specs.HasRead.{HasRead, HasShown, listed, shown_before}
 
 same_capture : (a b : List CapturePacket) (m n : ℕ) (fault : Option CaptureFault) → a ≡ b → m ≡ n →
     ◌≡◌ {A = Capture} (record { packets = a; passed = m; fault = fault }) (record { packets = b; passed = n; fault = fault })
@@ -47,6 +35,7 @@ shown_none = record {
   split = refl;
   comes = λ more. begins more ∙ before_none (to_come new_reading more);
   bytes = refl;
+  near = omega arith;
 }
 
 pub none_listed : (said : PartSaid) (count : ℕ) → ShowsNone said → listed (packet_shown count said) ≡ []
@@ -72,8 +61,8 @@ module _ (before : Reading) (given next : List ℕ) (shown : List CapturePacket)
   whole = ap (λ xs. xs ++ next) has.split ∙ append_assoc has.front before.kept next
 
   -- a part more
-  pub shown_more : (now : Reading) (said : PartSaid) → Passes before now (before.kept ++ next) said → HasShown now (given ++ next) (shown ++ listed now.packet)
-  shown_more now said passes = record {
+  pub shown_more : (now : Reading) (said : PartSaid) → Passes before now (before.kept ++ next) said → length now.kept ≤ most_buffered → HasShown now (given ++ next) (shown ++ listed now.packet)
+  shown_more now said passes near = record {
     front = has.front ++ passes.past;
     split = whole ∙ (ap (λ xs. has.front ++ xs) passes.split ∙ sym (append_assoc has.front passes.past now.kept));
     comes = λ more. ap capture_of (append_assoc has.front passes.past more)
@@ -84,6 +73,7 @@ module _ (before : Reading) (given next : List ℕ) (shown : List CapturePacket)
         (ap (λ p. (shown ++ listed p) ++ (to_come now more).packets) (sym passes.shown))
         (ap (λ n. n + (to_come now more).passed) (sym passes.passed)))));
     bytes = passes.bytes ∙ (ap (λ n. n + length passes.past) has.bytes ∙ sym (length-append has.front passes.past));
+    near = near;
   }
 
   -- nothing more, or a fault
@@ -95,9 +85,12 @@ module _ (before : Reading) (given next : List ℕ) (shown : List CapturePacket)
       ∙ same_capture _ _ _ _ fault (append-nil shown) (omega arith)))
 
   -- what was read before a call that stopped
-  pub read_before : HasRead (given ++ next) shown
-  read_before = record { front = has.front; rest = before.kept ++ next; split = whole; reader = before; goes_on = has.comes }
+  pub read_before : length (before.kept ++ next) ≤ most_ahead → HasRead (given ++ next) shown
+  read_before few = record { front = has.front; rest = before.kept ++ next; split = whole; few = few; reader = before; goes_on = has.comes }
+
+pub near_few : (kept : List ℕ) → length kept ≤ most_buffered → length kept ≤ most_ahead
+near_few kept near = omega (arith, near)
 
 -- what was read
 abbrev pub read_now : (reading : Reading) (given : List ℕ) (shown : List CapturePacket) → HasShown reading given shown → HasRead given shown
-read_now reading given shown has = record { front = has.front; rest = reading.kept; split = has.split; reader = reading; goes_on = has.comes }
+read_now reading given shown has = record { front = has.front; rest = reading.kept; split = has.split; few = near_few reading.kept has.near; reader = reading; goes_on = has.comes }

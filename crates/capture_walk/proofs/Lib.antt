@@ -1,0 +1,4 @@
+pub mod Showing
+pub mod Taken
+pub mod Parts
+pub mod Telling
