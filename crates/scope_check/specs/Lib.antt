@@ -1,4 +1,1 @@
-pub mod Checking
-pub mod Reading
-pub mod Tallies
 pub mod Writing
