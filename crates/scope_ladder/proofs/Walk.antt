@@ -23,10 +23,9 @@ use Rattle.page_draw_session_svg.specs.SessionPictures.{picture_within, session_
 use Rattle.book_sessions.specs.Listening.{Listening, listening_behind}
 use Rattle.capture_stream.specs.declared.reader.CaptureStep.TheVariants as step
 use Rattle.capture_stream.specs.declared.reader.CaptureHalt.TheVariants as stream_halt
-use Rattle.capture_stream.specs.Reads.{Reading, new_reading, ShowsNone, Passes, Steps}
-use Rattle.scope_lines.specs.Writes.{HasRead}
-use Rattle.scope_lines.proofs.Taken.{HasTaken, all_broken, all_ended, all_none, bytes_all, gave_all, has_read, no_more, none_shown, read_more, rose_read, stays_broken, taken_more, taken_none, too_many}
-use Rattle.scope_lines.proofs.Showing.{listed, one_listed, read_now, shown_none}
+use Rattle.capture_stream.specs.Reads.{Reading, most_ahead, most_buffered, new_reading, ShowsNone, Passes, Steps}
+use Rattle.capture_walk.proofs.Taken.{all_broken, all_ended, all_none, bytes_all, gave_all, has_read, no_more, none_shown, read_more, rose_read, stays_broken, taken_more, taken_none, too_many}
+use Rattle.capture_walk.proofs.Showing.{one_listed, read_now, shown_none}
 use Rattle.scope_ladder.specs.declared.draw.LadderHalt.{LadderHalt}
 use Rattle.scope_ladder.specs.declared.draw.LadderHalt.TheVariants as halt
 use Rattle.scope_ladder.specs.declared.draw.TextHalt.{TextHalt}
@@ -35,6 +34,7 @@ use Rattle.scope_ladder.specs.declared.drawer.Drawer.{Drawer}
 use Rattle.scope_ladder.specs.Drawing.{AddsPacket, Follows, Request, drawn_text, flow_text, last_text, rungs_for, session_in}
 use Rattle.scope_ladder.specs.Searches.{Seeks, SeeksBy, Tells, flow_as, kept_in, last_as}
 use Rattle.scope_ladder.specs.Writing.{Breaks, BreaksText, Ends, Writes, WritesLast, WritesText}
+use Rattle.capture_walk.specs.HasRead.{HasRead, HasTaken, listed}
 
 -- ---- what was drawn
 
@@ -218,8 +218,8 @@ ends_by q given a c o p r read text after result has_read wrote is ends (inr (in
 
 module _ (q : Request) (before : Reading) (drawer : Drawer) (given next : List ℕ) (shown : List CapturePacket) (a b c o p : Side) (between : Between q before drawer given shown a b o p) where
   module _ (r : Side) (after result : Result (Unit {0}) LadderHalt) (last : WritesLast (last_text drawer) p r after result) where
-    by_last : (WasWritten (drawn_text q shown) o r → Ends q (given ++ next) a c o r after) → Ends q (given ++ next) a c o r result
-    by_last ends = ends_by q (given ++ next) a c o p r shown (last_text drawer) after result (has_read between.taken next) between.wrote (last_is q drawer shown between.drawn) ends last
+    by_last : length (before.kept ++ next) ≤ most_ahead → (WasWritten (drawn_text q shown) o r → Ends q (given ++ next) a c o r after) → Ends q (given ++ next) a c o r result
+    by_last few ends = ends_by q (given ++ next) a c o p r shown (last_text drawer) after result (has_read between.taken next few) between.wrote (last_is q drawer shown between.drawn) ends last
 
     -- the capture's end
     pub ends_done : (now : Reading) → ((rs : List SessionRung) → Seeks drawer.search rs → Tells drawer.search.number rs after)
@@ -231,7 +231,7 @@ module _ (q : Request) (before : Reading) (drawer : Drawer) (given next : List �
         record {
           gave = gave_all between.taken steps.gave;
           bytes = bytes_all between.taken next steps.bytes;
-          ends = by_last (λ wrote. ends_told q (given ++ next) a c o r shown after (ap (λ c. c.packets) all) (ap (λ c. c.fault) all) steps.answers.1 wrote (subst (λ (rs : List SessionRung). Tells q.number rs after) (sym (rungs_are q drawer shown h)) said));
+          ends = by_last steps.few (λ wrote. ends_told q (given ++ next) a c o r shown after (ap (λ c. c.packets) all) (ap (λ c. c.fault) all) steps.answers.1 wrote (subst (λ (rs : List SessionRung). Tells q.number rs after) (sym (rungs_are q drawer shown h)) said));
         }
 
   -- a fault of the capture
@@ -242,8 +242,8 @@ module _ (q : Request) (before : Reading) (drawer : Drawer) (given next : List �
       record {
         gave = gave_all between.taken steps.gave;
         bytes = bytes_all between.taken next steps.bytes;
-        ends = by_last r (Err (halt.Broken fault)) result last (λ wrote. record {
-          has_read = rw all (has_read between.taken next);
+        ends = by_last r (Err (halt.Broken fault)) result last steps.few (λ wrote. record {
+          has_read = rw all (has_read between.taken next steps.few);
           fault_is = ap (λ c. c.fault) all;
           all = stays_broken between.taken steps;
           wrote = subst (λ (c : Capture). WasWritten (drawn_text q c.packets) o r) (sym all) wrote;
@@ -256,9 +256,9 @@ module _ (q : Request) (before : Reading) (drawer : Drawer) (given next : List �
   ends_read r now result last steps = record {
     gave = gave_all between.taken steps.gave;
     bytes = bytes_all between.taken next steps.bytes;
-    ends = by_last r (Err halt.Read) result last (λ wrote. (
+    ends = by_last r (Err halt.Read) result last steps.few (λ wrote. (
       rose_read between.taken steps,
-      record { read = shown; has_read = has_read between.taken next; wrote = wrote },
+      record { read = shown; has_read = has_read between.taken next steps.few; wrote = wrote },
     ));
   }
 
@@ -268,18 +268,18 @@ module _ (q : Request) (before : Reading) (drawer : Drawer) (given next : List �
   ends_long r now result last steps = record {
     gave = gave_all between.taken steps.gave;
     bytes = bytes_all between.taken next steps.bytes;
-    ends = by_last r (Err halt.TooLong) result last (λ wrote. (
+    ends = by_last r (Err halt.TooLong) result last steps.few (λ wrote. (
       too_many between.taken steps,
-      record { read = shown; has_read = has_read between.taken next; wrote = wrote },
+      record { read = shown; has_read = has_read between.taken next steps.few; wrote = wrote },
     ));
   }
 
   -- one more part was read, which says this
-  module _ (now : Reading) (said : PartSaid) (passes : Passes before now (before.kept ++ next) said) (gave : Gave next b c) (bytes : All IsByte next) where
+  module _ (now : Reading) (said : PartSaid) (passes : Passes before now (before.kept ++ next) said) (gave : Gave next b c) (bytes : All IsByte next) (near : length now.kept ≤ most_buffered) where
     between_listed : (drawer_now : Drawer) (r : Side) → HasDrawn q drawer_now (shown ++ listed now.packet) → WasWritten (flow_text q (shown ++ listed now.packet)) o r
         → Between q now drawer_now (given ++ next) (shown ++ listed now.packet) a c o r
     between_listed drawer_now r drawn wrote = record {
-      taken = taken_more between.taken gave bytes passes;
+      taken = taken_more between.taken gave bytes passes near;
       drawn = drawn;
       wrote = wrote;
     }
@@ -315,7 +315,7 @@ module _ (q : Request) (before : Reading) (drawer : Drawer) (given next : List �
         read = shown;
         later = listed now.packet;
         one = one_listed now.packet;
-        has_read = read_more between.taken next passes;
+        has_read = read_more between.taken next passes near;
         wrote = between.wrote;
       };
     }
@@ -329,7 +329,7 @@ module _ (q : Request) (before : Reading) (drawer : Drawer) (given next : List �
         let same : shown ++ listed now.packet ≡ shown ++ x ∷ [] = ap (λ packet. shown ++ listed packet) is in
         let all : (flow_text q shown ++ drawer_now.text.items) ++ last_text drawer_now ≡ drawn_text q (shown ++ x ∷ []) =
         ap (λ (xs : List ℕ). xs ++ last_text drawer_now) (sym whole) ∙ last_is q drawer_now (shown ++ x ∷ []) drawn in
-        breaks_at q (given ++ next) o p r shown (x ∷ []) drawer_now.text.items (last_text drawer_now) (omega arith) (rw same at (read_more between.taken next passes)) between.wrote all breaks
+        breaks_at q (given ++ next) o p r shown (x ∷ []) drawer_now.text.items (last_text drawer_now) (omega arith) (rw same at (read_more between.taken next passes near)) between.wrote all breaks
 
     -- whose lines weren't written whole
     pub ends_stuck : (drawer_now : Drawer) (r : Side) → IsSome now.packet → ((x : CapturePacket) → now.packet ≡ Some x → AddsPacket q drawer_now between.drawn.rungs between.drawn.known x)

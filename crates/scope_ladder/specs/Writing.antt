@@ -8,12 +8,12 @@ use Rattle.book_captures.specs.declared.capture_parts.CaptureFault.{CaptureFault
 use Rattle.book_captures.specs.Captures.{CapturePacket, capture_of}
 use Rattle.book_draw_session.specs.Rungs.{sessions_drawn}
 use Rattle.capture_stream.specs.Reads.{most_read}
-use Rattle.scope_lines.specs.Writes.{HasRead}
 use Rattle.scope_ladder.specs.declared.draw.LadderHalt.{LadderHalt}
 use Rattle.scope_ladder.specs.declared.draw.LadderHalt.TheVariants as halt
 use Rattle.scope_ladder.specs.declared.draw.TextHalt.{TextHalt}
 use Rattle.scope_ladder.specs.declared.draw.TextHalt.TheVariants as text_halt
 use Rattle.scope_ladder.specs.Drawing.{Request, drawn_text, flow_text, rungs_for, session_in}
+use Rattle.capture_walk.specs.HasRead.{HasRead}
 
 -- the whole capture was read, and its session drawn (own)
 pub record Finishes (q : Request) (given : List ℕ) (source_now out_before out_now : Side) : Type 0 where

@@ -29,7 +29,7 @@ use Rattle.scope_sessions.specs.declared.halt.JudgingHalt.TheVariants as halt
 use Rattle.scope_sessions.specs.Reading.{Counts, HasCounted, series_of}
 use Rattle.scope_sessions.specs.Halts.{halt_of, halt_of_lines, key_file_by, key_file_in, keys_at}
 use Rattle.scope_sessions.specs.Writing.{Ends, EndsBy, EndsWith, Report, Writes, WritesCounted, table_in}
-use Rattle.scope_lines.proofs.Taken.{all_none}
+use Rattle.capture_walk.proofs.Taken.{all_none}
 use Rattle.scope_sessions.proofs.Walk.{breaks_more, ends_none}
 
 module _ {A : Type 0} (r : Report A) (s : Series) (given : List ℕ) (a c o p q : Side) (counted : Counted) (has : HasCounted s given c counted) (before : WasWritten (early_text s (capture_of given).packets) o p) where

@@ -16,15 +16,16 @@ use Rattle.capture_listener.specs.Listeners.{Hearing, Knows}
 use Rattle.capture_stream.specs.declared.reader.CaptureStep.TheVariants as step
 use Rattle.capture_stream.specs.declared.reader.CaptureHalt.TheVariants as stream_halt
 use Rattle.book_base.specs.Hexadecimal.{IsByte}
-use Rattle.capture_stream.specs.Reads.{Reading, new_reading, ShowsNone, Passes, Steps}
-use Rattle.scope_lines.proofs.Taken.{HasTaken, all_broken, all_ended, all_none, bytes_all, gave_all, has_read, no_more, none_shown, read_more, rose_read, stays_broken, taken_more, taken_none, too_many}
-use Rattle.scope_lines.proofs.Showing.{listed, one_listed, read_now, shown_none}
+use Rattle.capture_stream.specs.Reads.{Reading, most_buffered, new_reading, ShowsNone, Passes, Steps}
+use Rattle.capture_walk.proofs.Taken.{all_broken, all_ended, all_none, bytes_all, gave_all, has_read, no_more, none_shown, read_more, rose_read, stays_broken, taken_more, taken_none, too_many}
+use Rattle.capture_walk.proofs.Showing.{one_listed, read_now, shown_none}
 use Rattle.scope_sessions.specs.declared.count.Counted.{Counted}
 use Rattle.scope_sessions.specs.declared.count.CountHalt.TheVariants as halt
 use Rattle.scope_sessions.specs.Counting.{CountsPacket}
 use Rattle.scope_sessions.specs.Halts.{keys_at}
 use Rattle.scope_sessions.specs.Reading.{BreaksEarly, Counts}
 use Rattle.scope_sessions.specs.Texts.{BreaksText}
+use Rattle.capture_walk.specs.HasRead.{HasTaken, listed}
 
 -- these packets were counted: whatever packets follow
 pub record HasHeard (s : Series) (hearing : Hearing) (table : SessionTable) (shown : List CapturePacket) : Type 0 where
@@ -152,7 +153,7 @@ module _ (s : Series) (before : Reading) (hearing : Hearing) (table : SessionTab
             table_is = rw all (is ∙ heard_all s hearing table shown between.heard);
             fault_is = none ∙ sym (ap (λ c. c.fault) all);
             whole = rw none (steps.answers.1);
-            has_read = rw all (has_read between.taken next);
+            has_read = rw all (has_read between.taken next steps.few);
           },
           rw all wrote_before,
         );
@@ -172,7 +173,7 @@ module _ (s : Series) (before : Reading) (hearing : Hearing) (table : SessionTab
             table_is = rw all (is ∙ heard_all s hearing table shown between.heard);
             fault_is = some ∙ sym (ap (λ c. c.fault) all);
             whole = rw some whole;
-            has_read = rw all (has_read between.taken next);
+            has_read = rw all (has_read between.taken next steps.few);
           },
           rw all wrote_before,
         );
@@ -185,7 +186,7 @@ module _ (s : Series) (before : Reading) (hearing : Hearing) (table : SessionTab
     bytes = bytes_all between.taken next steps.bytes;
     ends = (
       rose_read between.taken steps,
-      record { read = shown; has_read = has_read between.taken next; wrote = wrote_before },
+      record { read = shown; has_read = has_read between.taken next steps.few; wrote = wrote_before },
     );
   }
 
@@ -195,15 +196,15 @@ module _ (s : Series) (before : Reading) (hearing : Hearing) (table : SessionTab
       record {
         gave = gave_all between.taken steps.gave;
         bytes = bytes_all between.taken next steps.bytes;
-        ends = (too_many between.taken steps, record { read = shown; has_read = has_read between.taken next; wrote = wrote_before });
+        ends = (too_many between.taken steps, record { read = shown; has_read = has_read between.taken next steps.few; wrote = wrote_before });
       }
 
   -- one more part was read, which says this
-  module _ (now : Reading) (said : PartSaid) (passes : Passes before now (before.kept ++ next) said) (gave : Gave next b c) (bytes : All IsByte next) where
+  module _ (now : Reading) (said : PartSaid) (passes : Passes before now (before.kept ++ next) said) (gave : Gave next b c) (bytes : All IsByte next) (near : length now.kept ≤ most_buffered) where
     between_listed : (hearing_now : Hearing) (table_now : SessionTable) (since_now : Option ℕ) (r : Side) → HasHeard s hearing_now table_now (shown ++ listed now.packet) → HasWritten s (shown ++ listed now.packet) since_now o r
         → Between s now hearing_now table_now since_now (given ++ next) (shown ++ listed now.packet) a c o r
     between_listed hearing_now table_now since_now r heard writes = record {
-      taken = taken_more between.taken gave bytes passes;
+      taken = taken_more between.taken gave bytes passes near;
       heard = heard;
       writes = writes;
     }
@@ -276,7 +277,7 @@ module _ (s : Series) (before : Reading) (hearing : Hearing) (table : SessionTab
         read = shown ++ listed now.packet;
         later = [];
         one = omega arith;
-        has_read = rw (append-nil (shown ++ listed now.packet)) (read_more between.taken next passes);
+        has_read = rw (append-nil (shown ++ listed now.packet)) (read_more between.taken next passes near);
         wrote = memory_behind time seconds r now.packet refl some time_is seconds_are wrote;
       };
     }
@@ -290,7 +291,7 @@ module _ (s : Series) (before : Reading) (hearing : Hearing) (table : SessionTab
         read = shown;
         later = listed now.packet;
         one = one_listed now.packet;
-        has_read = read_more between.taken next passes;
+        has_read = read_more between.taken next passes near;
         wrote = took_and_none (early_text s shown) o q r wrote_before none;
       };
     }
@@ -303,7 +304,7 @@ module _ (s : Series) (before : Reading) (hearing : Hearing) (table : SessionTab
     breaks_by time seconds r (Some p) is some time_is seconds_are breaks = record {
       read = shown;
       last = p;
-      has_read = rw is at (read_more between.taken next passes);
+      has_read = rw is at (read_more between.taken next passes near);
       breaks = rw (early_more s shown since o q p between.writes)
           (breaks_more (early_text s shown) (due_text s shown since (second_seen p)) o q r wrote_before (rw (due_is time seconds p is time_is seconds_are) at breaks));
     }

@@ -14,11 +14,11 @@ use Rattle.page_sessions_json.specs.TableSeries.{Series, early_text}
 use Rattle.book_base.specs.Hexadecimal.{IsByte}
 use Rattle.capture_listener.specs.Listeners.{Hearing}
 use Rattle.capture_stream.specs.Reads.{most_read}
-use Rattle.scope_lines.specs.Writes.{HasRead}
 use Rattle.scope_sessions.specs.declared.count.Counted.{Counted}
 use Rattle.scope_sessions.specs.declared.count.CountHalt.{CountHalt}
 use Rattle.scope_sessions.specs.declared.count.CountHalt.TheVariants as halt
 use Rattle.scope_sessions.specs.Texts.{BreaksText}
+use Rattle.capture_walk.specs.HasRead.{HasRead}
 
 -- the source is at its end, where the capture has no fault; and where it has one, then whatever
 -- follows in the source

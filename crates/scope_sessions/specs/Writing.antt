@@ -23,13 +23,13 @@ use Rattle.page_sessions_json.specs.Forms.{written_as}
 use Rattle.page_sessions_json.specs.TableSeries.{Series, early_text, series_keys, series_text}
 use Rattle.book_base.specs.Hexadecimal.{IsByte}
 use Rattle.capture_stream.specs.Reads.{most_read}
-use Rattle.scope_lines.specs.Writes.{HasRead}
 use Rattle.scope_sessions.specs.declared.count.Counted.{Counted}
 use Rattle.scope_sessions.specs.declared.halt.JudgingHalt.{JudgingHalt}
 use Rattle.scope_sessions.specs.declared.halt.JudgingHalt.TheVariants as halt
 use Rattle.scope_sessions.specs.Halts.{Nothing, key_file_in, keys_at}
 use Rattle.scope_sessions.specs.Reading.{BreaksEarly, IsWhole, Lacks, Stops, series_of}
 use Rattle.scope_sessions.specs.Texts.{BreaksText}
+use Rattle.capture_walk.specs.HasRead.{HasRead}
 
 -- what is written of a table at the end, and what is answered of it, by a key file (own)
 pub record Report (A : Type 0) : Type 0 where

@@ -15,7 +15,7 @@ use Rattle.book_keys.specs.Rows.{Table}
 use Rattle.book_scope_plan.specs.AdminNames.{KeyFile}
 use Rattle.book_sessions.specs.GivenLines.{given_isns_of}
 use Rattle.text_lines.specs.Readings as readings
-use Rattle.scope_lines.proofs.Taken.{all_none}
+use Rattle.capture_walk.proofs.Taken.{all_none}
 use Rattle.scope_why.specs.declared.answer.Answered.{Answered}
 use Rattle.scope_sessions.specs.declared.halt.JudgingHalt.{JudgingHalt}
 use Rattle.scope_sessions.specs.declared.halt.JudgingHalt.TheVariants as halt

@@ -28,16 +28,16 @@ use Rattle.book_base.specs.declared.address.Pair.{Pair}
 use Rattle.capture_check.specs.declared.flows.Flows.{Flows}
 use Rattle.capture_stream.specs.declared.reader.CaptureStep.TheVariants as step
 use Rattle.capture_stream.specs.declared.reader.CaptureHalt.TheVariants as stream_halt
-use Rattle.capture_stream.specs.Reads.{Reading, new_reading, ShowsNone, Passes, Steps, to_come}
-use Rattle.scope_lines.specs.Writes.{HasRead}
-use Rattle.scope_lines.proofs.Taken.{HasTaken, all_broken, all_ended, all_none, bytes_all, gave_all, has_read, no_more, none_shown, read_more, rose_read, stays_broken, taken_more, taken_none, too_many}
-use Rattle.scope_lines.proofs.Showing.{listed, read_now, shown_none}
+use Rattle.capture_stream.specs.Reads.{Reading, most_ahead, most_buffered, new_reading, ShowsNone, Passes, Steps, to_come}
+use Rattle.capture_walk.proofs.Taken.{all_broken, all_ended, all_none, bytes_all, gave_all, has_read, no_more, none_shown, read_more, rose_read, shows_more, stays_broken, taken_more, taken_none, too_many}
+use Rattle.capture_walk.proofs.Showing.{read_now, shown_none}
 use Rattle.scope_why.specs.declared.answer.Answered.{Answered}
 use Rattle.scope_sessions.specs.declared.halt.JudgingHalt.TheVariants as halt
 use Rattle.scope_why.specs.Fronts.{StandsBehind, behind_one, stored_as}
 use Rattle.scope_why.specs.declared.shown.StoredBytes.{StoredBytes}
 use Rattle.scope_why.specs.Reading.{NoneHas, Reads, Stops}
 use Rattle.scope_why.specs.Replies.{AnswersBehind}
+use Rattle.capture_walk.specs.HasRead.{HasRead, HasTaken, listed}
 
 -- the first of these packets that has the number
 abbrev packet_named : ℕ → List CapturePacket → Option CapturePacket
@@ -170,15 +170,15 @@ ends_none keys asked source = record {
 
 module _ (keys : KeyFile) (asked : WhyAsked) (before : Reading) (checking : Checking) (told_now : List GivenIsns) (count : ℕ) (given next : List ℕ) (shown : List CapturePacket) (a b c : Side)
     (between : Between keys asked before checking told_now count given shown a b) where
-  stops : Stops asked (given ++ next)
-  stops = record { read = shown; has_read = has_read between.taken next; none = between.heard.none }
+  stops : length (before.kept ++ next) ≤ most_ahead → Stops asked (given ++ next)
+  stops few = record { read = shown; has_read = has_read between.taken next few; none = between.heard.none }
 
   -- memory ran out behind the last part
   pub ends_memory : (now : Reading) → Steps before now b c next (Ok step.End) → Reads keys asked (given ++ next) a c (Err halt.Memory)
   ends_memory now steps = record {
     gave = gave_all between.taken steps.gave;
     bytes = bytes_all between.taken next steps.bytes;
-    ends = record { read = shown; later = []; one = omega arith; has_read = rw (append-nil shown) (has_read between.taken next); none = between.heard.none };
+    ends = record { read = shown; later = []; one = omega arith; has_read = rw (append-nil shown) (has_read between.taken next steps.few); none = between.heard.none };
   }
 
   -- the capture's end
@@ -207,7 +207,7 @@ module _ (keys : KeyFile) (asked : WhyAsked) (before : Reading) (checking : Chec
         gave = gave_all between.taken steps.gave;
         bytes = bytes_all between.taken next steps.bytes;
         ends = record {
-          has_read = rw all (has_read between.taken next);
+          has_read = rw all (has_read between.taken next steps.few);
           fault_is = rw all refl;
           all = whole;
           none = rw all between.heard.none;
@@ -219,16 +219,16 @@ module _ (keys : KeyFile) (asked : WhyAsked) (before : Reading) (checking : Chec
   ends_read now steps = record {
     gave = gave_all between.taken steps.gave;
     bytes = bytes_all between.taken next steps.bytes;
-    ends = (rose_read between.taken steps, stops);
+    ends = (rose_read between.taken steps, stops steps.few);
   }
 
   -- more bytes than any file has
   pub ends_long : (now : Reading) → Steps before now b c next (Err stream_halt.TooLong) → Reads keys asked (given ++ next) a c (Err halt.TooLong)
   ends_long now steps =
-      record { gave = gave_all between.taken steps.gave; bytes = bytes_all between.taken next steps.bytes; ends = (too_many between.taken steps, stops) }
+      record { gave = gave_all between.taken steps.gave; bytes = bytes_all between.taken next steps.bytes; ends = (too_many between.taken steps, stops steps.few) }
 
   -- one more part was read, which says this
-  module _ (now : Reading) (said : PartSaid) (passes : Passes before now (before.kept ++ next) said) (gave : Gave next b c) (bytes : All IsByte next) where
+  module _ (now : Reading) (said : PartSaid) (passes : Passes before now (before.kept ++ next) said) (gave : Gave next b c) (bytes : All IsByte next) (near : length now.kept ≤ most_buffered) where
     pub count_low : count + 1 ≤ now.counts.bytes
     count_low =
         let some = passes.some in
@@ -249,7 +249,7 @@ module _ (keys : KeyFile) (asked : WhyAsked) (before : Reading) (checking : Chec
         let same = no_more shown now.packet nothing in
         let low = count_low in
         record {
-          taken = taken_more between.taken gave bytes passes;
+          taken = taken_more between.taken gave bytes passes near;
           few = omega arith;
           heard = rw same between.heard;
         }
@@ -259,7 +259,7 @@ module _ (keys : KeyFile) (asked : WhyAsked) (before : Reading) (checking : Chec
     ends_lacking = record {
       gave = gave_all between.taken gave;
       bytes = bytes_all between.taken next bytes;
-      ends = record { read = shown; later = listed now.packet; one = few_listed now.packet; has_read = read_more between.taken next passes; none = between.heard.none };
+      ends = record { read = shown; later = listed now.packet; one = few_listed now.packet; has_read = read_more between.taken next passes near; none = between.heard.none };
     }
 
     -- it showed this packet, of another number, which was heard
@@ -280,7 +280,7 @@ module _ (keys : KeyFile) (asked : WhyAsked) (before : Reading) (checking : Chec
           many = omega arith;
         } in
         record {
-          taken = taken_more between.taken gave bytes passes;
+          taken = taken_more between.taken gave bytes passes near;
           few = count_low;
           heard = rw put front;
         }
@@ -291,7 +291,7 @@ module _ (keys : KeyFile) (asked : WhyAsked) (before : Reading) (checking : Chec
         → Reads keys asked (given ++ next) a c (Ok answered)
     ends_here answered p is here answers =
         let put : shown ++ listed now.packet ≡ shown ++ p ∷ [] = ap (λ o. shown ++ listed o) is in
-        let has : HasRead (given ++ next) (shown ++ p ∷ []) = rw put at (read_more between.taken next passes) in
+        let has : HasRead (given ++ next) (shown ++ p ∷ []) = read_now now (given ++ next) (shown ++ p ∷ []) (rw put at (shows_more between.taken next passes near)) in
         record {
           gave = gave_all between.taken gave;
           bytes = bytes_all between.taken next bytes;
@@ -299,6 +299,7 @@ module _ (keys : KeyFile) (asked : WhyAsked) (before : Reading) (checking : Chec
             before = shown;
             last = p;
             has_read = has;
+            near = near;
             earlier = between.heard.none;
             here = here;
             text_is = reached_text keys asked shown p (given ++ next) has between.heard.none here answered (rw between.heard.same at answers);

@@ -7,23 +7,24 @@ use Rattle.book_captures.specs.declared.capture_parts.CaptureFault.{CaptureFault
 use Rattle.book_captures.specs.Captures.{CapturePacket, capture_of}
 use Rattle.book_scope_plan.specs.AdminNames.{KeyFile}
 use Rattle.book_why_texts.specs.Answers.{WhyAsked, has_number, why_passes, why_text}
-use Rattle.capture_stream.specs.Reads.{most_read}
-use Rattle.scope_lines.specs.Writes.{HasRead}
+use Rattle.capture_stream.specs.Reads.{most_buffered, most_read}
 use Rattle.scope_why.specs.declared.answer.Answered.{Answered}
 use Rattle.scope_sessions.specs.declared.halt.JudgingHalt.{JudgingHalt}
 use Rattle.scope_sessions.specs.declared.halt.JudgingHalt.TheVariants as halt
+use Rattle.capture_walk.specs.HasRead.{HasRead}
 
 -- none of these packets has this number
 abbrev pub NoneHas : ℕ → List CapturePacket → Type 0
 NoneHas n packets = All (λ p. has_number n p ≡ false) packets
 
--- the capture was read as far as the first packet of the number, and no further: this is the answer,
--- whatever follows
+-- the capture was read as far as the first packet of the number, and no further: no more was taken
+-- past its part than the reader keeps, and this is the answer, whatever follows
 pub record Reaches (keys : KeyFile) (asked : WhyAsked) (given text : List ℕ) (passes : Bool)
     : Type 0 where
   pub before : List CapturePacket
   pub last : CapturePacket
   pub has_read : HasRead given (before ++ last ∷ [])
+  pub near : length has_read.rest ≤ most_buffered
   pub earlier : NoneHas asked.number before
   pub here : has_number asked.number last ≡ true
   pub text_is : (more : List ℕ) → text ≡ why_text keys asked (capture_of (given ++ more)).packets

@@ -1,8 +1,8 @@
 use Rattle.std.proofs.Common.{[], ◌++◌, refl}
-use Rattle.scope_lines.proofs.Showing.{listed}
-use Rattle.scope_lines.proofs.Taken.{smaller}
+use Rattle.capture_walk.proofs.Taken.{smaller}
 use Rattle.scope_ladder.proofs.Walk.{broke, between_block, between_new, between_packet, ends_broken, ends_done, ends_long, ends_memory, ends_read, ends_stuck}
 use Rattle.scope_ladder.proofs.draw.draw_all.Goals as goal
+use Rattle.capture_walk.specs.HasRead.{listed}
 
 pub parts-init : goal.parts-init
 parts-init g c = (
@@ -28,7 +28,7 @@ parts-preserved-in-Ok-Block g c =
           let been = c.parts.invariant.1 q follows in (
             been.0 ++ more.0,
             been.1 ++ listed c.next.new.self.packet,
-            between_block q c.parts.reader c.parts.drawer been.0 more.0 been.1 _ _ _ _ _ been.2 c.next.new.self step.answers.0 step.answers.1 step.gave step.bytes step.answers.2,
+            between_block q c.parts.reader c.parts.drawer been.0 more.0 been.1 _ _ _ _ _ been.2 c.next.new.self step.answers.0 step.answers.1 step.gave step.bytes step.bound step.answers.2,
           ),
     )
 
@@ -73,7 +73,7 @@ parts-preserved g c =
           let wrote = rw c.as_slice.ensures.value at c.in-Ok-write_text.ensures in (
             been.0 ++ more.0,
             been.1 ++ listed c.next.new.self.packet,
-            between_packet q c.parts.reader c.parts.drawer been.0 more.0 been.1 _ _ _ _ _ between c.next.new.self step.answers.0 step.answers.1 step.gave step.bytes
+            between_packet q c.parts.reader c.parts.drawer been.0 more.0 been.1 _ _ _ _ _ between c.next.new.self step.answers.0 step.answers.1 step.gave step.bytes step.bound
                 c.draw_packet.new.self _ (c.in-Ok-Packet.ensures.shown (rw c.in-Ok-Packet.field-0-is refl)) (λ x is. c.in-Ok.ensures q between.drawn.rungs between.drawn.known x is between.drawn.follows) wrote,
           ),
     )
@@ -86,7 +86,7 @@ returns-in-Err-Write g c = λ q follows.
     let between = been.2 in
     let breaks = rw c.as_slice.ensures.value at (broke c.as_slice.result.now _ _ c.in-Err-Write.field-0 c.in-Err-Write.ensures) in (
       been.0 ++ more.0,
-      ends_stuck q c.parts.reader c.parts.drawer been.0 more.0 been.1 _ _ _ _ _ between c.next.new.self step.answers.0 step.answers.1 step.gave step.bytes
+      ends_stuck q c.parts.reader c.parts.drawer been.0 more.0 been.1 _ _ _ _ _ between c.next.new.self step.answers.0 step.answers.1 step.gave step.bytes step.bound
           c.draw_packet.new.self _ (c.in-Ok-Packet.ensures.shown (rw c.in-Ok-Packet.field-0-is refl)) (λ x is. c.in-Ok.ensures q between.drawn.rungs between.drawn.known x is between.drawn.follows) breaks,
     )
 
@@ -96,5 +96,5 @@ returns-in-Err g c = λ q follows.
     let more = rw c.in-Ok-Packet.field-0-is at c.in-Ok-Packet.ensures.steps in
     let step = more.1 in (
       been.0 ++ more.0,
-      ends_memory q c.parts.reader c.parts.drawer been.0 more.0 been.1 _ _ _ _ _ been.2 c.next.new.self step.answers.0 step.answers.1 step.gave step.bytes,
+      ends_memory q c.parts.reader c.parts.drawer been.0 more.0 been.1 _ _ _ _ _ been.2 c.next.new.self step.answers.0 step.answers.1 step.gave step.bytes step.bound,
     )

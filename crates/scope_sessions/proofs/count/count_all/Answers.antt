@@ -1,10 +1,10 @@
 use Rattle.std.proofs.Common.{[], ◌++◌, Some, None, refl}
 use Rattle.toml.specs.View.{table_view}
-use Rattle.scope_lines.proofs.Showing.{listed}
-use Rattle.scope_lines.proofs.Taken.{smaller}
+use Rattle.capture_walk.proofs.Taken.{smaller}
 use Rattle.scope_sessions.specs.Reading.{series_behind}
 use Rattle.scope_sessions.proofs.Walk.{between_block, between_counted, between_new, ends_broken, ends_done, ends_long, ends_lacking, ends_memory, ends_read, ends_stuck}
 use Rattle.scope_sessions.proofs.count.count_all.Goals as goal
+use Rattle.capture_walk.specs.HasRead.{listed}
 
 pub parts-init : goal.parts-init
 parts-init g c = (
@@ -30,7 +30,7 @@ parts-preserved-in-Ok-Block g c =
           let been = c.parts.invariant.1 isns knows in (
             been.0 ++ more.0,
             been.1 ++ listed c.next.new.self.packet,
-            between_block (series_behind (table_view c.args.document.now) c.args.listener.now.judging isns c.args.request) c.parts.reader c.parts.listener c.parts.index c.parts.since been.0 more.0 been.1 _ _ _ _ _ been.2 c.next.new.self step.answers.0 step.answers.1 step.gave step.bytes step.answers.2,
+            between_block (series_behind (table_view c.args.document.now) c.args.listener.now.judging isns c.args.request) c.parts.reader c.parts.listener c.parts.index c.parts.since been.0 more.0 been.1 _ _ _ _ _ been.2 c.next.new.self step.answers.0 step.answers.1 step.gave step.bytes step.bound step.answers.2,
           ),
     )
 
@@ -74,7 +74,7 @@ parts-preserved g c =
           let between = been.2 in (
             been.0 ++ more.0,
             been.1 ++ listed c.next.new.self.packet,
-            between_counted (series_behind (table_view c.args.document.now) c.args.listener.now.judging isns c.args.request) c.parts.reader c.parts.listener c.parts.index c.parts.since been.0 more.0 been.1 _ _ _ _ _ between c.next.new.self step.answers.0 step.answers.1 step.gave step.bytes
+            between_counted (series_behind (table_view c.args.document.now) c.args.listener.now.judging isns c.args.request) c.parts.reader c.parts.listener c.parts.index c.parts.since been.0 more.0 been.1 _ _ _ _ _ between c.next.new.self step.answers.0 step.answers.1 step.gave step.bytes step.bound
                 c.count_packet.new.listener c.count_packet.new.index c.time.result c.second_of-now.result c.counted_since-since.result _ (c.in-Ok-Packet.ensures.shown (rw c.in-Ok-Packet.field-0-is refl)) c.time.ensures c.second_of-now.ensures c.counted_since-since.ensures
                 (rw c.tables.ensures at c.in-Ok.ensures) c.in-Ok-count_packet.ensures.judging (λ p is. c.in-Ok-count_packet.ensures.counts between.heard.known p is between.heard.knows),
           ),
@@ -86,7 +86,7 @@ returns-in-Err g c = λ isns knows.
     let more = rw c.in-Ok-Packet.field-0-is at c.in-Ok-Packet.ensures.steps in
     let step = more.1 in (
       been.0 ++ more.0,
-      ends_memory (series_behind (table_view c.args.document.now) c.args.listener.now.judging isns c.args.request) c.parts.reader c.parts.listener c.parts.index c.parts.since been.0 more.0 been.1 _ _ _ _ _ been.2 c.next.new.self step.answers.0 step.answers.1 step.gave step.bytes
+      ends_memory (series_behind (table_view c.args.document.now) c.args.listener.now.judging isns c.args.request) c.parts.reader c.parts.listener c.parts.index c.parts.since been.0 more.0 been.1 _ _ _ _ _ been.2 c.next.new.self step.answers.0 step.answers.1 step.gave step.bytes step.bound
           c.time.result c.second_of-now.result _ (c.in-Ok-Packet.ensures.shown (rw c.in-Ok-Packet.field-0-is refl)) c.time.ensures c.second_of-now.ensures (rw c.tables.ensures at c.in-Ok.ensures),
     )
 
@@ -96,7 +96,7 @@ returns-in-Err-Write g c = λ isns knows.
     let more = rw c.in-Ok-Packet.field-0-is at c.in-Ok-Packet.ensures.steps in
     let step = more.1 in (
       been.0 ++ more.0,
-      ends_stuck (series_behind (table_view c.args.document.now) c.args.listener.now.judging isns c.args.request) c.parts.reader c.parts.listener c.parts.index c.parts.since been.0 more.0 been.1 _ _ _ _ _ been.2 c.next.new.self step.answers.0 step.answers.1 step.gave step.bytes
+      ends_stuck (series_behind (table_view c.args.document.now) c.args.listener.now.judging isns c.args.request) c.parts.reader c.parts.listener c.parts.index c.parts.since been.0 more.0 been.1 _ _ _ _ _ been.2 c.next.new.self step.answers.0 step.answers.1 step.gave step.bytes step.bound
           c.time.result c.second_of-now.result _ (c.in-Ok-Packet.ensures.shown (rw c.in-Ok-Packet.field-0-is refl)) c.time.ensures c.second_of-now.ensures (rw c.tables.ensures at (rw c.in-Err-Write.field-0-is at c.in-Err-Write.ensures)),
     )
 
@@ -106,6 +106,6 @@ returns-in-Err-Memory g c = λ isns knows.
     let more = rw c.in-Ok-Packet.field-0-is at c.in-Ok-Packet.ensures.steps in
     let step = more.1 in (
       been.0 ++ more.0,
-      ends_lacking (series_behind (table_view c.args.document.now) c.args.listener.now.judging isns c.args.request) c.parts.reader c.parts.listener c.parts.index c.parts.since been.0 more.0 been.1 _ _ _ _ _ been.2 c.next.new.self step.answers.0 step.answers.1 step.gave step.bytes
+      ends_lacking (series_behind (table_view c.args.document.now) c.args.listener.now.judging isns c.args.request) c.parts.reader c.parts.listener c.parts.index c.parts.since been.0 more.0 been.1 _ _ _ _ _ been.2 c.next.new.self step.answers.0 step.answers.1 step.gave step.bytes step.bound
           _ (rw c.in-Err-Memory.field-0-is at c.in-Err-Memory.ensures),
     )
