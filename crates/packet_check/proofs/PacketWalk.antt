@@ -1,5 +1,5 @@
 -- Packets, checked one after another.
-use Rattle.std.proofs.Common.{◌≡◌, ℕ, Bool, List, [], ◌∷◌, ◌++◌, Option, Some, Result, refl, sym, ap, ◌∙◌}
+use Rattle.std.proofs.Common.{◌≡◌, ℕ, ◌||◌, Bool, not, List, [], ◌∷◌, ◌++◌, Result, if◌then◌else◌, refl, sym, ap, subst, ◌∙◌}
 use Rattle.std.proofs.lemmas.List.{append-nil, map-append}
 use Rattle.std.proofs.lemmas.Grind.{flat_map-append}
 use Rattle.ao_base.specs.Outside.{Side}
@@ -8,7 +8,8 @@ use Rattle.book_keys.specs.Rows.{Table}
 use Rattle.book_captures.specs.Captures.{CapturePacket}
 use Rattle.book_cmd_check.specs.Captures.{Connection}
 use Rattle.book_sessions.specs.Sessions.{stored_of_packet}
-use Rattle.book_scope_check.specs.CheckedLines.{listed_line, listed_lines}
+use Rattle.book_scope_check.specs.declared.class.PacketClass.{PacketClass}
+use Rattle.book_scope_check.specs.CheckedLines.{checked_line, is_foreign_class, listed_line, listed_lines}
 use Rattle.book_scope_check.specs.CheckedPackets.{CheckedPacket, checked_from, checked_packet, class_of, classes_of, held_after}
 use Rattle.capture_check.specs.declared.flows.Flows.{Flows}
 use Rattle.capture_walk.specs.declared.hearer.Heard.{Heard}
@@ -16,6 +17,8 @@ use Rattle.capture_walk.specs.declared.hearer.HearHalt.{HearHalt}
 use Rattle.capture_walk.specs.Hearing.{Hears, Tells}
 use Rattle.capture_walk.proofs.Telling.{hears_told}
 use Rattle.packet_check.specs.declared.tally.Tally.{Tally}
+use Rattle.packet_check.specs.Checking.{ChecksPacket}
+use Rattle.packet_check.specs.Tallies.{Tallies}
 use Rattle.packet_check.specs.Reading.{CheckAsked, HearsPacket, StandsAfter, held_from, lines_from}
 
 held_more : (tables : List Table) (packets : List CapturePacket) (held : List Connection) (p : CapturePacket) → held_from tables held (packets ++ p ∷ []) ≡ held_after tables (held_from tables held packets) (stored_of_packet p)
@@ -57,3 +60,18 @@ packet_heard q before p tables tables_now all all_now entries entries_now tally 
       stands = rw (held_more q.tables before q.held p) one.stands;
       tallies = rw (classes_more q.tables q.held before p) one.tallies;
     }) tells
+
+listed_as : (listed : Bool) (class foreign : PacketClass) (all : Bool) (line text : List ℕ) → foreign ≡ class → listed ≡ (all || not (is_foreign_class class)) → line ≡ text
+    → (if listed then line else []) ≡ (if all || not (is_foreign_class foreign) then text else [])
+listed_as listed class foreign all line text same listed_is line_is = rw (same, sym listed_is, line_is) refl
+
+-- a packet was checked and counted, and its line kept if it is listed
+pub packet_kept : (tables : List Table) (all : Bool) (held : List Connection) (p : CapturePacket) (classes : List PacketClass) (entries : List (Pair × Flows)) (tally : Tally) (line kept : List ℕ) (class : PacketClass) (listed : Bool)
+    → ChecksPacket tables held p entries line class → Tallies tally (classes ++ class ∷ []) → listed ≡ (all || not (is_foreign_class class)) → kept ≡ (if listed then line else []) → HearsPacket tables all held p classes entries tally kept
+packet_kept tables all held p classes entries tally line kept class listed checks tallies listed_is kept_is =
+    let own = class_of tables (checked_packet tables held p).content in
+    record {
+      stands = checks.stands;
+      tallies = subst (λ (c : PacketClass). Tallies tally (classes ++ c ∷ [])) checks.class_is tallies;
+      line_is = kept_is ∙ listed_as listed class own all line (checked_line (checked_packet tables held p)) (sym checks.class_is) listed_is checks.line_is;
+    }

@@ -5,7 +5,7 @@ use Rattle.std.proofs.lemmas.List.Elements.{filter-append}
 use Rattle.std.proofs.lemmas.List.Quantifiers.{list_any-append}
 use Rattle.std.specs.List.{filter, list_any}
 use Rattle.book_scope_check.specs.declared.class.PacketClass.{PacketClass}
-use Rattle.book_scope_check.specs.CheckedLines.{are_amiss, class_count, is_amiss_class, is_passing_class}
+use Rattle.book_scope_check.specs.CheckedLines.{are_amiss, class_count, is_amiss_class, is_foreign_class, is_other_class, is_passing_class, is_refused_class}
 use Rattle.packet_check.specs.declared.tally.Tally.{Tally}
 use Rattle.packet_check.specs.Tallies.{Tallies}
 
@@ -44,3 +44,15 @@ none_counted (c ∷ cs) = by (is_passing_class c) refl (none_counted cs)
 pub amiss_told : (t : Tally) (classes : List PacketClass) (none : Bool) → Tallies t classes → none ≡ (t.passing == 0) → (t.amiss || none) ≡ are_amiss classes
 amiss_told t classes none tallies is =
     ap (λ (b : Bool). b || none) tallies.amiss ∙ ap (λ (b : Bool). list_any is_amiss_class classes || b) (is ∙ (ap (λ (n : ℕ). n == 0) tallies.passing ∙ none_counted classes))
+
+-- the tally with one more packet
+pub tallies_more : (t now : Tally) (classes : List PacketClass) (c : PacketClass) (p r f o a : Bool) → Tallies t classes → p ≡ is_passing_class c → r ≡ is_refused_class c → f ≡ is_foreign_class c → o ≡ is_other_class c → a ≡ is_amiss_class c
+    → now.passing ≡ (if p then t.passing + 1 else t.passing) → now.refused ≡ (if r then t.refused + 1 else t.refused) → now.foreign ≡ (if f then t.foreign + 1 else t.foreign) → now.others ≡ (if o then t.others + 1 else t.others)
+    → now.amiss ≡ (t.amiss || a) → Tallies now (classes ++ c ∷ [])
+tallies_more t now classes c p r f o a tallies p_is r_is f_is o_is a_is passing refused foreign others amiss = record {
+  passing = count_more is_passing_class classes c t.passing now.passing p tallies.passing p_is passing;
+  refused = count_more is_refused_class classes c t.refused now.refused r tallies.refused r_is refused;
+  foreign = count_more is_foreign_class classes c t.foreign now.foreign f tallies.foreign f_is foreign;
+  others = count_more is_other_class classes c t.others now.others o tallies.others o_is others;
+  amiss = amiss_more classes c t.amiss now.amiss tallies.amiss (amiss ∙ ap (λ (b : Bool). t.amiss || b) a_is);
+}

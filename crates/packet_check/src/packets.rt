@@ -1,8 +1,9 @@
 //! Who checks the packets of a capture, one after another.
-ghost use Rattle.std.specs.Prelude.{◌≡◌, ◌<◌, [], IfOk, IsSome, List, OnOk, Some};
+ghost use Rattle.std.specs.Prelude.{◌≡◌, ◌<◌, ◌||◌, [], IfOk, IsSome, List, OnOk, Some, if◌then◌else◌, not};
 ghost use Rattle.book_captures.specs.Captures.{CapturePacket};
 ghost use Rattle.book_cmd_check.specs.Captures.{Connection};
 ghost use Rattle.book_scope_check.specs.declared.class.PacketClass.{PacketClass};
+ghost use Rattle.book_scope_check.specs.CheckedLines.{is_foreign_class};
 ghost use Rattle.capture_check.specs.Checkers.{StandsFor};
 ghost use Rattle.packet_check.specs.Checking.{ChecksPacket};
 ghost use Rattle.packet_check.specs.Reading.{HearsPacket};
@@ -51,6 +52,22 @@ fn check_counted<L: Ledger>(
     check_shown(checker, alloc, &mut steps, reader, line)
 }
 
+// Whether the line of a packet is listed that counts as this.
+fn is_listed(all: bool, class: PacketClass) -> bool
+    ensures { result ≡ (all || not (is_foreign_class class)) }
+{
+    all || !is_foreign(class)
+}
+
+// Empties the line, unless it is listed.
+fn keep_listed(line: &mut Vec<u8>, listed: bool)
+    ensures { line.new.items ≡ (if listed then line.old.items else []) }
+{
+    if !listed {
+        line.clear();
+    }
+}
+
 impl PacketChecker {
     /// One that has heard no packet.
     pub(crate) fn new(alloc: Global, all: bool, checker: Checker) -> PacketChecker
@@ -84,9 +101,7 @@ impl PacketChecker {
             Blank::new(1),
         )?;
         self.tally = self.tally.with(class)?;
-        if !self.all && is_foreign(class) {
-            self.line.clear();
-        }
+        keep_listed(&mut self.line, is_listed(self.all, class));
         Ok(())
     }
 }
