@@ -1,5 +1,5 @@
 //! How many packets count as what.
-ghost use Rattle.std.specs.Prelude.{◌≡◌, ◌+◌, ◌++◌, ◌∷◌, [], IfOk, List, OnOk, codes, decimal, if◌then◌else◌};
+ghost use Rattle.std.specs.Prelude.{◌≡◌, ◌+◌, ◌++◌, ◌∷◌, ◌||◌, [], IfOk, List, OnOk, codes, decimal, if◌then◌else◌};
 ghost use Rattle.book_lines.specs.Texts.{spaced};
 ghost use Rattle.book_scope_check.specs.declared.class.PacketClass.{PacketClass};
 ghost use Rattle.book_scope_check.specs.CheckedLines.{are_amiss, is_amiss_class, is_foreign_class, is_other_class};
@@ -46,6 +46,12 @@ fn is_amiss_class(class: PacketClass) -> bool
     matches!(class, PacketClass::Refused | PacketClass::Doubtful)
 }
 
+fn is_either(one: bool, other: bool) -> bool
+    ensures { result ≡ (one || other) }
+{
+    one || other
+}
+
 // The count with one more, if it counts. An error where 2^64 - 1 are counted.
 fn one_more(count: u64, counts: bool) -> Result<u64, AllocError>
     ensures { IfOk result (λ n. n ≡ (if counts then count + 1 else count)) }
@@ -81,12 +87,17 @@ impl Tally {
     pub(crate) fn with(self, class: PacketClass) -> Result<Tally, AllocError>
         ensures { (classes : List PacketClass) → Tallies self classes → IfOk result (λ t. Tallies t (classes ++ class ∷ [])) }
     {
+        let passing = one_more(self.passing, is_passing(class))?;
+        let refused = one_more(self.refused, is_refused(class))?;
+        let foreign = one_more(self.foreign, is_foreign(class))?;
+        let others = one_more(self.others, is_other(class))?;
+        let amiss = is_either(self.amiss, is_amiss_class(class));
         Ok(Tally {
-            passing: one_more(self.passing, is_passing(class))?,
-            refused: one_more(self.refused, is_refused(class))?,
-            foreign: one_more(self.foreign, is_foreign(class))?,
-            others: one_more(self.others, is_other(class))?,
-            amiss: self.amiss || is_amiss_class(class),
+            passing,
+            refused,
+            foreign,
+            others,
+            amiss,
         })
     }
 
@@ -117,6 +128,6 @@ impl Tally {
     pub(crate) fn is_amiss(self) -> bool
         ensures { (classes : List PacketClass) → Tallies self classes → result ≡ are_amiss classes }
     {
-        self.amiss || self.passing == 0
+        is_either(self.amiss, self.passing == 0)
     }
 }
