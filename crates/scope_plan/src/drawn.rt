@@ -8,7 +8,6 @@ ghost use Rattle.draw_plan_svg.specs.Draws.{Draws};
 ghost use Rattle.scope_plan.specs.Plannings.{connection_as, framed_plan, lines_as};
 
 use crate::connections::{findings_by, has_none, push_connection};
-use key_file::KeyFile;
 use crate::planned::{Planned, Written};
 use book_base::{Bytes, Pair};
 use book_cmd_keys::Plan;
@@ -17,6 +16,7 @@ use book_plans::Finding;
 use both_ends::BothEnds;
 use draw_plan::{Connected, push_bars, push_summary_line};
 use draw_plan_svg::{Panel, Paper, picture_width, push_end, push_front, push_panel, push_summary};
+use key_file::KeyFile;
 use key_table::{Table, Tables};
 use plan_texts::{push_missing, push_pair_line};
 use std::alloc::{AllocError, Global};

@@ -5,10 +5,10 @@ ghost use Rattle.book_scope_plan.specs.PlanTexts.{facing};
 ghost use Rattle.scope_plan.specs.Facings.{facing_of};
 ghost use Rattle.scope_plan.specs.KeyFiles.{key_file_of};
 
-use key_file::KeyFile;
 use book_base::{End, Pair};
 use book_cmd_keys::Plan;
 use draw_plan::Connected;
+use key_file::KeyFile;
 use key_table::{Table, mirrored};
 
 /// A connection as one of its ends sees it: the document that the key file is, the table of its node, that

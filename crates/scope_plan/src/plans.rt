@@ -15,13 +15,13 @@ ghost use Rattle.scope_plan.specs.Plannings.{no_plan, planned_answer, planned_fr
 use crate::connection::read_connection;
 use crate::connections::changes_key;
 use crate::drawn::{framed, push_connection_as};
-use key_file::KeyFile;
 use crate::planned::Planned;
 use book_base::{Bytes, Pair};
 use book_cmd_keys::Plan;
 use book_draw_plan::PlanForm;
 use book_lines::TextFault;
 use command_report::{Report, Stop};
+use key_file::KeyFile;
 use key_plan::calendar;
 use std::alloc::{AllocError, Global};
 use text_lines::{Saying, SayingLines, count_lines};
