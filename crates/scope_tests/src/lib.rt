@@ -9,10 +9,8 @@ mod files;
 #[cfg(test)]
 mod of_capture_stream;
 #[cfg(test)]
-<<<<<<< HEAD
 mod of_key_file;
-=======
+#[cfg(test)]
 mod of_packet_check;
->>>>>>> fc784897e6b745be10a7308d283f05c13b6915c0
 #[cfg(test)]
 mod of_scope_lines;
