@@ -46,6 +46,15 @@ pub(crate) fn isns_file<'a>(alloc: Global) -> Arg<'a> {
     option(alloc, "isn", "FILE", help)
 }
 
+/// The file in place of standard input.
+pub(crate) fn capture_file<'a>(alloc: Global) -> Arg<'a> {
+    Arg::new(alloc, "capture")
+        .short('r')
+        .value_name("FILE")
+        .help("The capture, in place of standard input")
+        .action(ArgAction::Set)
+}
+
 /// The word with what makes a picture in SVG of what `--draw` draws.
 pub(crate) fn with_svg<'a>(
     word: Command<'a>,
