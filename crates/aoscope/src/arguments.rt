@@ -47,12 +47,27 @@ pub(crate) fn isns_file<'a>(alloc: Global) -> Arg<'a> {
 }
 
 /// The file in place of standard input.
-pub(crate) fn capture_file<'a>(alloc: Global) -> Arg<'a> {
-    Arg::new(alloc, "capture")
+fn input_file<'a>(alloc: Global, help: &'a str) -> Arg<'a> {
+    Arg::new(alloc, "input")
         .short('r')
         .value_name("FILE")
-        .help("The capture, in place of standard input")
+        .help(help)
         .action(ArgAction::Set)
+}
+
+/// The capture in place of standard input.
+pub(crate) fn capture_file<'a>(alloc: Global) -> Arg<'a> {
+    input_file(alloc, "The capture, in place of standard input")
+}
+
+/// The link file in place of standard input.
+pub(crate) fn link_file<'a>(alloc: Global) -> Arg<'a> {
+    input_file(alloc, "The link file, in place of standard input")
+}
+
+/// The connections in place of standard input.
+pub(crate) fn connections_file<'a>(alloc: Global) -> Arg<'a> {
+    input_file(alloc, "The connections, in place of standard input")
 }
 
 /// The word with what makes a picture in SVG of what `--draw` draws.

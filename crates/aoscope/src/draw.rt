@@ -1,5 +1,5 @@
 //! The word `draw`: the run of a link file as a ladder.
-use crate::arguments::{flag, key_file_if_any};
+use crate::arguments::{flag, key_file_if_any, link_file};
 use clap::{ArgMatches, Command};
 use scope_run::{Asked, DrawAsked};
 use std::alloc::{AllocError, Global};
@@ -30,6 +30,7 @@ pub(crate) fn command<'a>(alloc: Global) -> Result<Command<'a>, AllocError> {
         .about(ABOUT)
         .after_help(AFTER)
         .arg(key_file_if_any(alloc))?
+        .arg(link_file(alloc))?
         .arg(flag(alloc, "svg", "Draw a picture in SVG"))
 }
 

@@ -1,5 +1,5 @@
 //! The word `echo`: the report of a link file's run beside the lines of its events.
-use crate::arguments::key_file_if_any;
+use crate::arguments::{key_file_if_any, link_file};
 use clap::{ArgMatches, Command};
 use scope_run::{Asked, EchoAsked};
 use std::alloc::{AllocError, Global};
@@ -21,7 +21,8 @@ pub(crate) fn command<'a>(alloc: Global) -> Result<Command<'a>, AllocError> {
     Command::new(alloc, "echo")
         .about(ABOUT)
         .after_help(AFTER)
-        .arg(key_file_if_any(alloc))
+        .arg(key_file_if_any(alloc))?
+        .arg(link_file(alloc))
 }
 
 /// What the words ask for.

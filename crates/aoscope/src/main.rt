@@ -62,7 +62,7 @@ fn paths<'m>(matches: &'m ArgMatches<'_>) -> Paths<'m> {
     Paths {
         keys: matches.get_str("KEYS"),
         isns: matches.get_str("isn"),
-        input: matches.get_str("capture"),
+        input: matches.get_str("input"),
     }
 }
 

@@ -1,5 +1,5 @@
 //! The word `plan`: what is said of the planned rollovers of connections.
-use crate::arguments::{flag, key_file, required_word, with_svg};
+use crate::arguments::{connections_file, flag, key_file, required_word, with_svg};
 use clap::{ArgMatches, Command};
 use scope_run::{Asked, PlanAsked};
 use std::alloc::{AllocError, Global};
@@ -49,6 +49,7 @@ pub(crate) fn command<'a>(alloc: Global) -> Result<Command<'a>, AllocError> {
         .arg(flag(alloc, "draw", "Draw the use of each row over time, as bars"))?;
     with_svg(word, alloc, "Draw them as a picture in SVG")?
         .arg(key_file(alloc))?
+        .arg(connections_file(alloc))?
         .arg(required_word(alloc, "LEAD", lead))?
         .arg(required_word(alloc, "LAG", lag))?
         .arg(required_word(alloc, "FROM", from))?

@@ -30,9 +30,9 @@ fn run_input<K: Source, J: Source>(
     asked: &Asked<'_>,
     keys: &mut K,
     isns: &mut J,
-    capture: Option<&str>,
+    input: Option<&str>,
 ) -> u8 {
-    match capture {
+    match input {
         Some(path) => run_over(rt, asked, keys, isns, &mut ReadSource::new(Opening::of(rt, path))),
         None => {
             let _ = tell_waiting(rt, word);
@@ -48,14 +48,14 @@ fn run_isns<K: Source>(
     asked: &Asked<'_>,
     keys: &mut K,
     isns: Option<&str>,
-    capture: Option<&str>,
+    input: Option<&str>,
 ) -> u8 {
     match isns {
         Some(path) => {
             let mut isns = ReadSource::new(Opening::of(rt, path));
-            run_input(rt, word, asked, keys, &mut isns, capture)
+            run_input(rt, word, asked, keys, &mut isns, input)
         }
-        None => run_input(rt, word, asked, keys, &mut none(rt), capture),
+        None => run_input(rt, word, asked, keys, &mut none(rt), input),
     }
 }
 

@@ -21,6 +21,7 @@ With --keys the traffic key stands there too, which is a secret: who has it can 
 Status 0: the packet passes; 1: it doesn't, or isn't there; 3: keys; 4: also FILE; the others as above.
 
     aoscope why KEYS N < CAPTURE
+    aoscope why KEYS N -r CAPTURE
     aoscope why KEYS N --isn FILE < CAPTURE
     aoscope why KEYS N --keys < CAPTURE";
 

@@ -97,8 +97,7 @@ halt_text word (halt.IsNo name what) =
 halt_text word halt.NoSuchKey =
     codes "no row has the AdminKeyName or KeyID " ++ text_shown word ++ 10 ∷ []
 halt_text word (halt.NoSession number many) =
-    line_text (codes "no session" ∷ (decimal number ++ codes ": the capture has")
-    ∷ decimal many ∷ [])
+    codes "no session " ++ decimal number ++ (codes ": the capture has " ++ decimal many) ++ 10 ∷ []
 halt_text word halt.NoNode = codes "no node: the key file names none\n"
 halt_text word halt.NoConnection = codes "no connection: the input names none\n"
 halt_text word (halt.Keys fault) = table_fault_line fault

@@ -1,5 +1,5 @@
 -- What is read whole, and how the reading ends.
-use Rattle.std.proofs.Common.{◌≡◌, ℕ, ◌<◌, ◌≤◌, Bool, true, false, List, [], length, Result, Ok, Err, refl, ap, rw, ◌∙◌, arith}
+use Rattle.std.proofs.Common.{◌≡◌, ℕ, ◌<◌, ◌≤◌, Bool, true, false, List, [], length, Result, Ok, Err, refl, arith}
 use Rattle.ao_base.specs.Outside.{Side}
 use Rattle.ao_base.specs.ReadAll.{ReadsAll}
 use Rattle.ao_base.specs.declared.whole.ReadProblem.{ReadProblem}

@@ -29,7 +29,8 @@ fn draw_over<I: Source, O: Sink>(
     input: &mut I,
     out: &mut O,
 ) -> Result<bool, Halt>
-    ensures { (i : List ℕ) × DrawsRun form tables (record { given = i; input_before = I.side input.old; input_now = I.side input.new;
+    ensures { (i : List ℕ) × DrawsRun form tables
+        (record { given = i; input_before = I.side input.old; input_now = I.side input.new;
         out_before = O.side out.old; out_now = O.side out.new }) result }
 {
     let text = match read_whole(alloc, Origin::Input, input) {
@@ -47,7 +48,8 @@ fn draw_shared<I: Source, O: Sink>(
     input: &mut I,
     out: &mut O,
 ) -> Result<bool, Halt>
-    ensures { (i : List ℕ) × DrawsSharedRun form (record { given = i; input_before = I.side input.old; input_now = I.side input.new;
+    ensures { (i : List ℕ) × DrawsSharedRun form
+        (record { given = i; input_before = I.side input.old; input_now = I.side input.new;
         out_before = O.side out.old; out_now = O.side out.new }) result }
 {
     let text = match read_whole(alloc, Origin::Input, input) {
@@ -68,7 +70,8 @@ pub(crate) fn act<K: Source, I: Source, O: Sink>(
 ) -> Result<bool, Halt>
     ensures { (isns : Side) → (g : Given) × Draws asked.has_keys (form_of asked) g
         (record { keys = K.side keys.old; isns = isns; input = I.side input.old; out = O.side out.old })
-        (record { keys = K.side keys.new; isns = isns; input = I.side input.new; out = O.side out.new }) result }
+        (record { keys = K.side keys.new; isns = isns; input = I.side input.new; out = O.side out.new })
+        result }
 {
     let form = form_of(asked);
     if !asked.has_keys {

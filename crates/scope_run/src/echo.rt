@@ -22,7 +22,8 @@ fn echo_over<I: Source, O: Sink>(
     input: &mut I,
     out: &mut O,
 ) -> Result<bool, Halt>
-    ensures { (i : List ℕ) × Echoes tables (record { given = i; input_before = I.side input.old; input_now = I.side input.new;
+    ensures { (i : List ℕ) × Echoes tables
+        (record { given = i; input_before = I.side input.old; input_now = I.side input.new;
         out_before = O.side out.old; out_now = O.side out.new }) result }
 {
     let text = match read_whole(alloc, Origin::Input, input) {
@@ -39,7 +40,8 @@ fn echo_shared<I: Source, O: Sink>(
     input: &mut I,
     out: &mut O,
 ) -> Result<bool, Halt>
-    ensures { (i : List ℕ) × EchoesShared (record { given = i; input_before = I.side input.old; input_now = I.side input.new;
+    ensures { (i : List ℕ) × EchoesShared
+        (record { given = i; input_before = I.side input.old; input_now = I.side input.new;
         out_before = O.side out.old; out_now = O.side out.new }) result }
 {
     let text = match read_whole(alloc, Origin::Input, input) {
@@ -60,7 +62,8 @@ pub(crate) fn act<K: Source, I: Source, O: Sink>(
 ) -> Result<bool, Halt>
     ensures { (isns : Side) → (g : Given) × EchoesBy asked.has_keys g
         (record { keys = K.side keys.old; isns = isns; input = I.side input.old; out = O.side out.old })
-        (record { keys = K.side keys.new; isns = isns; input = I.side input.new; out = O.side out.new }) result }
+        (record { keys = K.side keys.new; isns = isns; input = I.side input.new; out = O.side out.new })
+        result }
 {
 
     if !asked.has_keys {

@@ -1,7 +1,8 @@
 //! Why a run ends early, by what the calls below answer, and the status of a run.
 ghost use Rattle.std.specs.Prelude.{◌≡◌};
 ghost use Rattle.book_scope_run.specs.Endings.{halt_status, long_status, status_at};
-ghost use Rattle.scope_run.specs.Halts.{halt_of_isns, halt_of_judging, halt_of_keys, halt_of_ladder, halt_of_lines, halt_of_reading, halt_of_stop, halt_of_words};
+ghost use Rattle.scope_run.specs.Halts.{halt_of_isns, halt_of_judging, halt_of_keys, halt_of_ladder};
+ghost use Rattle.scope_run.specs.Halts.{halt_of_lines, halt_of_reading, halt_of_stop, halt_of_words};
 
 use ao_base::ReadProblem;
 use book_lines::TextFault;

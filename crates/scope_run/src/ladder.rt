@@ -46,7 +46,8 @@ fn draw_by<I: Source, O: Sink>(
     input: &mut I,
     out: &mut O,
 ) -> Result<bool, Halt>
-    ensures { (i : List ℕ) × DrawsBy wanted tables isns.now (record { given = i; input_before = I.side input.old; input_now = I.side input.new;
+    ensures { (i : List ℕ) × DrawsBy wanted tables isns.now
+        (record { given = i; input_before = I.side input.old; input_now = I.side input.new;
         out_before = O.side out.old; out_now = O.side out.new }) result }
 {
     match draw_session(alloc, wanted, tables, isns, input, out) {
@@ -63,7 +64,8 @@ fn draw_over<I: Source, O: Sink>(
     input: &mut I,
     out: &mut O,
 ) -> Result<bool, Halt>
-    ensures { (i : List ℕ) × DrawsOver wanted isns.now tables (record { given = i; input_before = I.side input.old; input_now = I.side input.new;
+    ensures { (i : List ℕ) × DrawsOver wanted isns.now tables
+        (record { given = i; input_before = I.side input.old; input_now = I.side input.new;
         out_before = O.side out.old; out_now = O.side out.new }) result }
 {
     match isns_in(alloc, isns) {
@@ -79,7 +81,8 @@ fn draw_from<I: Source, O: Sink>(
     input: &mut I,
     out: &mut O,
 ) -> Result<bool, Halt>
-    ensures { (i : List ℕ) × DrawsSession wanted files.now.keys files.now.isns (record { given = i; input_before = I.side input.old; input_now = I.side input.new;
+    ensures { (i : List ℕ) × DrawsSession wanted files.now.keys files.now.isns
+        (record { given = i; input_before = I.side input.old; input_now = I.side input.new;
         out_before = O.side out.old; out_now = O.side out.new }) result }
 {
     match tables_in(alloc, files.keys.as_slice()) {
@@ -99,7 +102,8 @@ fn read_and_draw<K: Source, J: Source, I: Source, O: Sink>(
 ) -> Result<bool, Halt>
     ensures { (g : Given) × ReadsAndDraws has_isns wanted g
         (record { keys = K.side keys.old; isns = J.side isns.old; input = I.side input.old; out = O.side out.old })
-        (record { keys = K.side keys.new; isns = J.side isns.new; input = I.side input.new; out = O.side out.new }) result }
+        (record { keys = K.side keys.new; isns = J.side isns.new; input = I.side input.new; out = O.side out.new })
+        result }
 {
     match read_files(alloc, has_isns, keys, isns) {
         Ok(files) => draw_from(alloc, wanted, &files, input, out),
@@ -119,7 +123,8 @@ pub(crate) fn act<K: Source, J: Source, I: Source, O: Sink>(
 ) -> Result<bool, Halt>
     ensures { (g : Given) × SessionsBy None (Some text.now) asked.now g
         (record { keys = K.side keys.old; isns = J.side isns.old; input = I.side input.old; out = O.side out.old })
-        (record { keys = K.side keys.new; isns = J.side isns.new; input = I.side input.new; out = O.side out.new }) result }
+        (record { keys = K.side keys.new; isns = J.side isns.new; input = I.side input.new; out = O.side out.new })
+        result }
 {
     match ladder_wanted(asked, text) {
         Ok(wanted) => read_and_draw(alloc, wanted, asked.has_isns, keys, isns, input, out),

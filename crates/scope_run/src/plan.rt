@@ -63,7 +63,8 @@ fn answer_by<I: Source, O: Sink>(
     input: &mut I,
     out: &mut O,
 ) -> Result<bool, Halt>
-    ensures { (i : List ℕ) × Plans form plan (key_file_of file.now) (record { given = i; input_before = I.side input.old; input_now = I.side input.new;
+    ensures { (i : List ℕ) × Plans form plan (key_file_of file.now)
+        (record { given = i; input_before = I.side input.old; input_now = I.side input.new;
         out_before = O.side out.old; out_now = O.side out.new }) result }
 {
     let text = match read_whole(alloc, Origin::Input, input) {
@@ -83,7 +84,8 @@ fn read_and_answer<K: Source, I: Source, O: Sink>(
 ) -> Result<bool, Halt>
     ensures { (isns : Side) → (g : Given) × ReadsAndPlans form plan g
         (record { keys = K.side keys.old; isns = isns; input = I.side input.old; out = O.side out.old })
-        (record { keys = K.side keys.new; isns = isns; input = I.side input.new; out = O.side out.new }) result }
+        (record { keys = K.side keys.new; isns = isns; input = I.side input.new; out = O.side out.new })
+        result }
 {
     match key_file_from(alloc, keys) {
         Ok(file) => answer_by(alloc, form, plan, &file, input, out),
@@ -102,7 +104,8 @@ pub(crate) fn act<K: Source, I: Source, O: Sink>(
 ) -> Result<bool, Halt>
     ensures { (isns : Side) → (g : Given) × PlansBy asked.now g
         (record { keys = K.side keys.old; isns = isns; input = I.side input.old; out = O.side out.old })
-        (record { keys = K.side keys.new; isns = isns; input = I.side input.new; out = O.side out.new }) result }
+        (record { keys = K.side keys.new; isns = isns; input = I.side input.new; out = O.side out.new })
+        result }
 {
     match plan_asked(asked.lead, asked.lag, asked.from, asked.to) {
         Ok(plan) => read_and_answer(alloc, form_of(asked), plan, keys, input, out),

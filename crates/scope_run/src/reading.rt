@@ -74,7 +74,8 @@ pub(crate) fn read_files<K: Source, J: Source>(
     keys: &mut K,
     isns: &mut J,
 ) -> Result<Files, Halt>
-    ensures { (k j : List ℕ) × ReadsFiles has_isns k j (K.side keys.old) (K.side keys.new) (J.side isns.old) (J.side isns.new) result }
+    ensures { (k j : List ℕ) ×
+        ReadsFiles has_isns k j (K.side keys.old) (K.side keys.new) (J.side isns.old) (J.side isns.new) result }
 {
     let keys = match read_whole(alloc, Origin::KeyFile, keys) {
         Ok(keys) => keys,
@@ -128,7 +129,8 @@ pub(crate) fn key_file_from<K: Source>(alloc: Global, keys: &mut K) -> Result<Ke
 
 /// The initial sequence numbers that lines give.
 pub(crate) fn isns_in(alloc: Global, isns: &[u8]) -> Result<Vec<GivenIsns>, Halt>
-    ensures { MatchResult result (λ given. given_isns_of isns.now ≡ Ok given.items) (λ why. IsnsFail why (given_isns_of isns.now)) }
+    ensures { MatchResult result (λ given. given_isns_of isns.now ≡ Ok given.items)
+        (λ why. IsnsFail why (given_isns_of isns.now)) }
 {
     match read_given(alloc, isns) {
         Ok(given) => Ok(given),

@@ -46,7 +46,8 @@ fn write_lines<I: Source, O: Sink>(
     input: &mut I,
     out: &mut O,
 ) -> Result<bool, Halt>
-    ensures { (i : List ℕ) × Retires word.now laps files.now.keys files.now.isns (record { given = i; input_before = I.side input.old; input_now = I.side input.new;
+    ensures { (i : List ℕ) × Retires word.now laps files.now.keys files.now.isns
+        (record { given = i; input_before = I.side input.old; input_now = I.side input.new;
         out_before = O.side out.old; out_now = O.side out.new }) result }
 {
     let (keys, isns) = (files.keys.as_slice(), files.isns.as_slice());
@@ -65,7 +66,8 @@ fn read_and_write<K: Source, J: Source, I: Source, O: Sink>(
 ) -> Result<bool, Halt>
     ensures { (g : Given) × ReadsAndRetires has_isns word.now laps g
         (record { keys = K.side keys.old; isns = J.side isns.old; input = I.side input.old; out = O.side out.old })
-        (record { keys = K.side keys.new; isns = J.side isns.new; input = I.side input.new; out = O.side out.new }) result }
+        (record { keys = K.side keys.new; isns = J.side isns.new; input = I.side input.new; out = O.side out.new })
+        result }
 {
     match read_files(alloc, has_isns, keys, isns) {
         Ok(files) => write_lines(alloc, word, laps, &files, input, out),
@@ -85,7 +87,8 @@ pub(crate) fn act<K: Source, J: Source, I: Source, O: Sink>(
 ) -> Result<bool, Halt>
     ensures { (draw : Option (List ℕ)) → (g : Given) × SessionsBy (Some word.now) draw asked.now g
         (record { keys = K.side keys.old; isns = J.side isns.old; input = I.side input.old; out = O.side out.old })
-        (record { keys = K.side keys.new; isns = J.side isns.new; input = I.side input.new; out = O.side out.new }) result }
+        (record { keys = K.side keys.new; isns = J.side isns.new; input = I.side input.new; out = O.side out.new })
+        result }
 {
     match retiring_wanted(asked) {
         Ok(laps) => read_and_write(alloc, word, laps, asked.has_isns, keys, isns, input, out),

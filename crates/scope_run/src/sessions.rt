@@ -20,9 +20,11 @@ pub(crate) fn act<K: Source, J: Source, I: Source, O: Sink>(
     input: &mut I,
     out: &mut O,
 ) -> Result<bool, Halt>
-    ensures { (g : Given) × SessionsBy (option_map (λ w. w.now) asked.now.retire) (option_map (λ w. w.now) asked.now.draw) asked.now g
+    ensures { (g : Given) × SessionsBy (option_map (λ w. w.now) asked.now.retire)
+        (option_map (λ w. w.now) asked.now.draw) asked.now g
         (record { keys = K.side keys.old; isns = J.side isns.old; input = I.side input.old; out = O.side out.old })
-        (record { keys = K.side keys.new; isns = J.side isns.new; input = I.side input.new; out = O.side out.new }) result }
+        (record { keys = K.side keys.new; isns = J.side isns.new; input = I.side input.new; out = O.side out.new })
+        result }
 {
     match asked.retire {
         Some(word) => retire::act(alloc, word, asked, keys, isns, input, out),

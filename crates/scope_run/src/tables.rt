@@ -47,7 +47,8 @@ fn write_tables<I: Source, O: Sink>(
     input: &mut I,
     out: &mut O,
 ) -> Result<bool, Halt>
-    ensures { (i : List ℕ) × Tabulates wanted files.now.keys files.now.isns (record { given = i; input_before = I.side input.old; input_now = I.side input.new;
+    ensures { (i : List ℕ) × Tabulates wanted files.now.keys files.now.isns
+        (record { given = i; input_before = I.side input.old; input_now = I.side input.new;
         out_before = O.side out.old; out_now = O.side out.new }) result }
 {
     let (keys, isns) = (files.keys.as_slice(), files.isns.as_slice());
@@ -68,7 +69,8 @@ fn read_and_write<K: Source, J: Source, I: Source, O: Sink>(
 ) -> Result<bool, Halt>
     ensures { (g : Given) × ReadsAndTabulates has_isns wanted g
         (record { keys = K.side keys.old; isns = J.side isns.old; input = I.side input.old; out = O.side out.old })
-        (record { keys = K.side keys.new; isns = J.side isns.new; input = I.side input.new; out = O.side out.new }) result }
+        (record { keys = K.side keys.new; isns = J.side isns.new; input = I.side input.new; out = O.side out.new })
+        result }
 {
     match read_files(alloc, has_isns, keys, isns) {
         Ok(files) => write_tables(alloc, wanted, &files, input, out),
@@ -87,7 +89,8 @@ pub(crate) fn act<K: Source, J: Source, I: Source, O: Sink>(
 ) -> Result<bool, Halt>
     ensures { (g : Given) × SessionsBy None None asked.now g
         (record { keys = K.side keys.old; isns = J.side isns.old; input = I.side input.old; out = O.side out.old })
-        (record { keys = K.side keys.new; isns = J.side isns.new; input = I.side input.new; out = O.side out.new }) result }
+        (record { keys = K.side keys.new; isns = J.side isns.new; input = I.side input.new; out = O.side out.new })
+        result }
 {
     match tables_wanted(asked) {
         Ok(wanted) => read_and_write(alloc, wanted, asked.has_isns, keys, isns, input, out),

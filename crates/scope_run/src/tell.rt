@@ -6,7 +6,7 @@ ghost use Rattle.book_lines.specs.Faults.{kind_text};
 ghost use Rattle.book_lines.specs.Texts.{spaced};
 ghost use Rattle.scope_run.specs.Runs.{Tells};
 
-use ao_base::{Sink, write_all};
+use ao_base::{Sink, push_decimal, write_all};
 use book_lines::LineKind;
 use book_scope_run::{Argument, Halt, Misuse, Origin, Wanted};
 use key_faults::push_key_fault;
@@ -100,14 +100,18 @@ fn push_no_such_key(line: &mut Vec<u8>, word: &[u8]) -> Result<(), AllocError>
     push_newline(line)
 }
 
-#[tactic(auto, using(crate::proofs::TextLaws::append_three))]
+fn push_count(line: &mut Vec<u8>, text: &[u8], count: u64) -> Result<(), AllocError>
+    ensures { OnOk result (line.new.items ≡ line.old.items ++ (text.now ++ decimal count)) }
+{
+    line.extend_from_slice(text)?;
+    push_decimal(line, count)
+}
+
 fn push_no_session(line: &mut Vec<u8>, number: u64, many: u64) -> Result<(), AllocError>
     ensures { OnOk result (line.new.items ≡ line.old.items ++ halt_text [] (Halt.NoSession number many)) }
 {
-    line.extend_from_slice(b"no session")?;
-    push_number(line, number)?;
-    line.extend_from_slice(b": the capture has")?;
-    push_number(line, many)?;
+    push_count(line, b"no session ", number)?;
+    push_count(line, b": the capture has ", many)?;
     push_newline(line)
 }
 

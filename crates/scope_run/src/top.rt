@@ -24,7 +24,8 @@ fn act<K: Source, J: Source, I: Source, O: Sink>(
 ) -> Result<bool, Halt>
     ensures { (g : Given) × Acts asked.now g
         (record { keys = K.side keys.old; isns = J.side isns.old; input = I.side input.old; out = O.side out.old })
-        (record { keys = K.side keys.new; isns = J.side isns.new; input = I.side input.new; out = O.side out.new }) result }
+        (record { keys = K.side keys.new; isns = J.side isns.new; input = I.side input.new; out = O.side out.new })
+        result }
 {
     match asked {
         Asked::Lines => lines::act(alloc, input, out),
@@ -41,16 +42,17 @@ fn act<K: Source, J: Source, I: Source, O: Sink>(
 ///
 /// `keys` is the key file, `isns` that of initial sequence numbers, `input` standard input or the file in its place,
 /// `out` standard output and `err` standard error. The words are looked at first; then the key file is read, then the
-/// initial sequence numbers, then the input, each only where the words ask for it. The first fault in this order is
-/// answered, and what stands behind it isn't read. `plan` and `draw` and `echo` write when all was read, and so does
-/// `sessions` without `--every` and but for a ladder of text; the others write as they read.
+/// initial sequence numbers, then the input, each only where the words ask for it. Where one of these can't be read,
+/// what comes after it isn't. `plan`, `draw` and `echo` judge the key file before they read the input; `sessions` and
+/// `why` judge it, and then the initial sequence numbers, when both were read, and before they read the input. `plan`,
+/// `draw`, `echo` and `keys` write when all was read, `lines` and `sessions` as their calls below say.
 ///
 /// | status | comes | text for `err` |
 /// |---|---|---|
 /// | 0 | done | none |
-/// | 1 | done, with something amiss; or there is no node, no connection or no such session | none; or `no ..` |
-/// | 2 | the words are refused, and nothing is read; or no row is named so | `usage: ..`; or `no row ..` |
-/// | 3 | the key file is refused, or has over 1,048,576 bytes; nothing else is read, but by `plan`, `draw` and `echo` | `keys: ..` |
+/// | 1 | done, with something amiss; or there is no node, no connection or no such session | none, or `no ..` |
+/// | 2 | the words are refused, and nothing is read; or no row is named so | `usage: ..`, or `no row ..` |
+/// | 3 | the key file is refused, or has over 1,048,576 bytes; the input isn't read | `keys: ..` |
 /// | 4 | the initial sequence numbers, or the input, are refused or too long | `isn: ..`, `input: ..` |
 /// | 5 | a source that is read failed | `keys: read fault`, `isn: read fault`, `input: read fault` |
 /// | 6 | `out` failed | `write fault` |

@@ -31,7 +31,8 @@ fn explain<I: Source, O: Sink>(
     input: &mut I,
     out: &mut O,
 ) -> Result<bool, Halt>
-    ensures { (i : List ℕ) × Explains wanted files.now.keys files.now.isns (record { given = i; input_before = I.side input.old; input_now = I.side input.new;
+    ensures { (i : List ℕ) × Explains wanted files.now.keys files.now.isns
+        (record { given = i; input_before = I.side input.old; input_now = I.side input.new;
         out_before = O.side out.old; out_now = O.side out.new }) result }
 {
     let (keys, isns) = (files.keys.as_slice(), files.isns.as_slice());
@@ -52,7 +53,8 @@ fn read_and_explain<K: Source, J: Source, I: Source, O: Sink>(
 ) -> Result<bool, Halt>
     ensures { (g : Given) × ReadsAndExplains has_isns wanted g
         (record { keys = K.side keys.old; isns = J.side isns.old; input = I.side input.old; out = O.side out.old })
-        (record { keys = K.side keys.new; isns = J.side isns.new; input = I.side input.new; out = O.side out.new }) result }
+        (record { keys = K.side keys.new; isns = J.side isns.new; input = I.side input.new; out = O.side out.new })
+        result }
 {
     match read_files(alloc, has_isns, keys, isns) {
         Ok(files) => explain(alloc, wanted, &files, input, out),
@@ -71,7 +73,8 @@ pub(crate) fn act<K: Source, J: Source, I: Source, O: Sink>(
 ) -> Result<bool, Halt>
     ensures { (g : Given) × ExplainsBy asked.now g
         (record { keys = K.side keys.old; isns = J.side isns.old; input = I.side input.old; out = O.side out.old })
-        (record { keys = K.side keys.new; isns = J.side isns.new; input = I.side input.new; out = O.side out.new }) result }
+        (record { keys = K.side keys.new; isns = J.side isns.new; input = I.side input.new; out = O.side out.new })
+        result }
 {
     match why_wanted(asked) {
         Ok(wanted) => read_and_explain(alloc, wanted, asked.has_isns, keys, isns, input, out),

@@ -1,7 +1,9 @@
 //! What the texts of the words write, or why they are refused.
 ghost use Rattle.std.specs.Prelude.{◌≡◌, option_map};
 ghost use Rattle.book_base.specs.Results.{or_fault};
-ghost use Rattle.book_scope_run.specs.Words.{drawn_alone, every_asked, few_laps, from_one, laps_asked, length_by, numbered_packet, plan_allowed, plan_asked, retired_alone, session_asked, time_allowed, time_by, bound_asked, within_asked};
+ghost use Rattle.book_scope_run.specs.Words.{bound_asked, drawn_alone, every_asked, few_laps, from_one, laps_asked};
+ghost use Rattle.book_scope_run.specs.Words.{length_by, numbered_packet, plan_allowed, plan_asked, retired_alone};
+ghost use Rattle.book_scope_run.specs.Words.{session_asked, time_allowed, time_by, within_asked};
 ghost use Rattle.book_base.specs.Decimals.{decimal_of};
 
 use ao_base::read_decimal;
