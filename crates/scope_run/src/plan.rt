@@ -8,6 +8,7 @@ ghost use Rattle.scope_run.specs.Requests.{plan_form_of, plan_wanted};
 ghost use Rattle.scope_run.specs.Sides.{Flow, Given, Sides};
 
 use crate::asked::PlanAsked;
+use crate::halt::halt_of_stop;
 use crate::reading::{key_file_from, read_whole};
 use crate::report::{made, write_report};
 use crate::words::plan_asked;
@@ -30,6 +31,7 @@ fn form_of(asked: &PlanAsked<'_>) -> PlanForm
 }
 
 /// What is said of the connections of an input, of which there is one, by a key file that has a node.
+#[tactic(auto, using(crate::proofs::PlanLaws::no_node, crate::proofs::PlanLaws::lines_refused, crate::proofs::PlanLaws::nothing_said, crate::proofs::PlanLaws::something_said))]
 fn report_on(
     alloc: Global,
     form: PlanForm,
@@ -42,9 +44,9 @@ fn report_on(
     if file.tables.nodes() == 0 {
         return Err(Halt::NoNode);
     }
-    let lines = match made(answer_plan(alloc, PlanForm::Lines, file, plan, input)) {
+    let lines = match answer_plan(alloc, PlanForm::Lines, file, plan, input) {
         Ok(lines) => lines,
-        Err(why) => return Err(why),
+        Err(stop) => return Err(halt_of_stop(stop)),
     };
     if lines.text.as_slice().is_empty() {
         return Err(Halt::NoConnection);

@@ -98,6 +98,7 @@ pub(crate) fn tables_in(alloc: Global, keys: &[u8]) -> Result<Tables, Halt>
 }
 
 /// The key file that a text is, with its document.
+#[tactic(auto, using(crate::proofs::FileLaws::file_given, crate::proofs::FileLaws::file_fails))]
 fn key_file_in(alloc: Global, text: &[u8]) -> Result<KeyFile, Halt>
     ensures { KeysGive (key_file_in text.now) (sheets_of result) }
 {
