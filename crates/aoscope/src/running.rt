@@ -33,7 +33,13 @@ fn run_input<K: Source, J: Source>(
     input: Option<&str>,
 ) -> u8 {
     match input {
-        Some(path) => run_over(rt, asked, keys, isns, &mut ReadSource::new(Opening::of(rt, path))),
+        Some(path) => run_over(
+            rt,
+            asked,
+            keys,
+            isns,
+            &mut ReadSource::new(Opening::of(rt, path)),
+        ),
         None => {
             let _ = tell_waiting(rt, word);
             run_over(rt, asked, keys, isns, &mut ReadSource::new(rt.stdin()))

@@ -30,8 +30,13 @@ fn draw_over<I: Source, O: Sink>(
     out: &mut O,
 ) -> Result<bool, Halt>
     ensures { (i : List ℕ) × DrawsRun form tables
-        (record { given = i; input_before = I.side input.old; input_now = I.side input.new;
-        out_before = O.side out.old; out_now = O.side out.new }) result }
+        (record {
+          given = i;
+          input_before = I.side input.old;
+          input_now = I.side input.new;
+          out_before = O.side out.old;
+          out_now = O.side out.new;
+        }) result }
 {
     let text = match read_whole(alloc, Origin::Input, input) {
         Ok(text) => text,
@@ -49,8 +54,13 @@ fn draw_shared<I: Source, O: Sink>(
     out: &mut O,
 ) -> Result<bool, Halt>
     ensures { (i : List ℕ) × DrawsSharedRun form
-        (record { given = i; input_before = I.side input.old; input_now = I.side input.new;
-        out_before = O.side out.old; out_now = O.side out.new }) result }
+        (record {
+          given = i;
+          input_before = I.side input.old;
+          input_now = I.side input.new;
+          out_before = O.side out.old;
+          out_now = O.side out.new;
+        }) result }
 {
     let text = match read_whole(alloc, Origin::Input, input) {
         Ok(text) => text,

@@ -2,7 +2,6 @@
 ghost use Rattle.std.specs.Prelude.{◌≡◌, ℕ, List};
 ghost use Rattle.ao_base.specs.Outside.{Side};
 ghost use Rattle.scope_run.specs.Acts.{EchoesBy, Echoes, EchoesShared};
-
 ghost use Rattle.scope_run.specs.Sides.{Given, Sides};
 
 use crate::asked::EchoAsked;
@@ -11,7 +10,6 @@ use crate::report::{made, write_report};
 use ao_base::{Sink, Source};
 use book_scope_run::{Halt, Origin};
 use key_table::Tables;
-
 use scope_echo::{answer_echo, answer_echo_keys};
 use std::alloc::Global;
 
@@ -23,8 +21,13 @@ fn echo_over<I: Source, O: Sink>(
     out: &mut O,
 ) -> Result<bool, Halt>
     ensures { (i : List ℕ) × Echoes tables
-        (record { given = i; input_before = I.side input.old; input_now = I.side input.new;
-        out_before = O.side out.old; out_now = O.side out.new }) result }
+        (record {
+          given = i;
+          input_before = I.side input.old;
+          input_now = I.side input.new;
+          out_before = O.side out.old;
+          out_now = O.side out.new;
+        }) result }
 {
     let text = match read_whole(alloc, Origin::Input, input) {
         Ok(text) => text,
@@ -35,14 +38,15 @@ fn echo_over<I: Source, O: Sink>(
 }
 
 /// Echoes a link file that names the key that both ends share.
-fn echo_shared<I: Source, O: Sink>(
-    alloc: Global,
-    input: &mut I,
-    out: &mut O,
-) -> Result<bool, Halt>
+fn echo_shared<I: Source, O: Sink>(alloc: Global, input: &mut I, out: &mut O) -> Result<bool, Halt>
     ensures { (i : List ℕ) × EchoesShared
-        (record { given = i; input_before = I.side input.old; input_now = I.side input.new;
-        out_before = O.side out.old; out_now = O.side out.new }) result }
+        (record {
+          given = i;
+          input_before = I.side input.old;
+          input_now = I.side input.new;
+          out_before = O.side out.old;
+          out_now = O.side out.new;
+        }) result }
 {
     let text = match read_whole(alloc, Origin::Input, input) {
         Ok(text) => text,
@@ -65,7 +69,6 @@ pub(crate) fn act<K: Source, I: Source, O: Sink>(
         (record { keys = K.side keys.new; isns = isns; input = I.side input.new; out = O.side out.new })
         result }
 {
-
     if !asked.has_keys {
         return echo_shared(alloc, input, out);
     }

@@ -23,7 +23,11 @@ fn key_report(alloc: Global, keys: &[u8]) -> Result<Report, Halt>
 }
 
 /// Writes what is wrong with the key file.
-pub(crate) fn act<K: Source, O: Sink>(alloc: Global, keys: &mut K, out: &mut O) -> Result<bool, Halt>
+pub(crate) fn act<K: Source, O: Sink>(
+    alloc: Global,
+    keys: &mut K,
+    out: &mut O,
+) -> Result<bool, Halt>
     ensures { (given : List ℕ) ×
         JudgesKeys given (K.side keys.old) (K.side keys.new) (O.side out.old) (O.side out.new) result }
 {

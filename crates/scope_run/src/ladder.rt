@@ -20,7 +20,11 @@ use std::alloc::Global;
 fn form_of(is_svg: bool) -> LadderForm
     ensures { result ≡ ladder_form_of is_svg }
 {
-    if is_svg { LadderForm::Picture } else { LadderForm::Text }
+    if is_svg {
+        LadderForm::Picture
+    } else {
+        LadderForm::Text
+    }
 }
 
 fn ladder_wanted(asked: &SessionsAsked<'_>, text: &[u8]) -> Result<LadderRequest, Halt>
@@ -47,8 +51,13 @@ fn draw_by<I: Source, O: Sink>(
     out: &mut O,
 ) -> Result<bool, Halt>
     ensures { (i : List ℕ) × DrawsBy wanted tables isns.now
-        (record { given = i; input_before = I.side input.old; input_now = I.side input.new;
-        out_before = O.side out.old; out_now = O.side out.new }) result }
+        (record {
+          given = i;
+          input_before = I.side input.old;
+          input_now = I.side input.new;
+          out_before = O.side out.old;
+          out_now = O.side out.new;
+        }) result }
 {
     match draw_session(alloc, wanted, tables, isns, input, out) {
         Ok(()) => Ok(false),
@@ -65,8 +74,13 @@ fn draw_over<I: Source, O: Sink>(
     out: &mut O,
 ) -> Result<bool, Halt>
     ensures { (i : List ℕ) × DrawsOver wanted isns.now tables
-        (record { given = i; input_before = I.side input.old; input_now = I.side input.new;
-        out_before = O.side out.old; out_now = O.side out.new }) result }
+        (record {
+          given = i;
+          input_before = I.side input.old;
+          input_now = I.side input.new;
+          out_before = O.side out.old;
+          out_now = O.side out.new;
+        }) result }
 {
     match isns_in(alloc, isns) {
         Ok(given) => draw_by(alloc, wanted, tables, given.as_slice(), input, out),
@@ -82,8 +96,13 @@ fn draw_from<I: Source, O: Sink>(
     out: &mut O,
 ) -> Result<bool, Halt>
     ensures { (i : List ℕ) × DrawsSession wanted files.now.keys files.now.isns
-        (record { given = i; input_before = I.side input.old; input_now = I.side input.new;
-        out_before = O.side out.old; out_now = O.side out.new }) result }
+        (record {
+          given = i;
+          input_before = I.side input.old;
+          input_now = I.side input.new;
+          out_before = O.side out.old;
+          out_now = O.side out.new;
+        }) result }
 {
     match tables_in(alloc, files.keys.as_slice()) {
         Ok(tables) => draw_over(alloc, wanted, files.isns.as_slice(), tables, input, out),

@@ -16,8 +16,13 @@ pub(crate) fn act<I: Source, O: Sink>(
     out: &mut O,
 ) -> Result<bool, Halt>
     ensures { (i : List ℕ) × Lists
-        (record { given = i; input_before = I.side input.old; input_now = I.side input.new;
-        out_before = O.side out.old; out_now = O.side out.new }) result }
+        (record {
+          given = i;
+          input_before = I.side input.old;
+          input_now = I.side input.new;
+          out_before = O.side out.old;
+          out_now = O.side out.new;
+        }) result }
 {
     match write_lines(alloc, input, out) {
         Ok(()) => Ok(false),

@@ -24,7 +24,11 @@ fn form_of(asked: &PlanAsked<'_>) -> PlanForm
     ensures { result ≡ plan_form_of asked.now }
 {
     if asked.draw {
-        if asked.svg { PlanForm::Picture } else { PlanForm::Bars }
+        if asked.svg {
+            PlanForm::Picture
+        } else {
+            PlanForm::Bars
+        }
     } else {
         PlanForm::Lines
     }
@@ -66,8 +70,13 @@ fn answer_by<I: Source, O: Sink>(
     out: &mut O,
 ) -> Result<bool, Halt>
     ensures { (i : List ℕ) × Plans form plan (key_file_of file.now)
-        (record { given = i; input_before = I.side input.old; input_now = I.side input.new;
-        out_before = O.side out.old; out_now = O.side out.new }) result }
+        (record {
+          given = i;
+          input_before = I.side input.old;
+          input_now = I.side input.new;
+          out_before = O.side out.old;
+          out_now = O.side out.new;
+        }) result }
 {
     let text = match read_whole(alloc, Origin::Input, input) {
         Ok(text) => text,

@@ -47,8 +47,13 @@ fn write_lines<I: Source, O: Sink>(
     out: &mut O,
 ) -> Result<bool, Halt>
     ensures { (i : List ℕ) × Retires word.now laps files.now.keys files.now.isns
-        (record { given = i; input_before = I.side input.old; input_now = I.side input.new;
-        out_before = O.side out.old; out_now = O.side out.new }) result }
+        (record {
+          given = i;
+          input_before = I.side input.old;
+          input_now = I.side input.new;
+          out_before = O.side out.old;
+          out_now = O.side out.new;
+        }) result }
 {
     let (keys, isns) = (files.keys.as_slice(), files.isns.as_slice());
     retiring_end(write_retiring(alloc, word, laps, keys, isns, input, out))

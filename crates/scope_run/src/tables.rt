@@ -24,7 +24,11 @@ pub(crate) struct TablesWanted {
 fn form_of(is_json: bool) -> TableForm
     ensures { result ≡ table_form_of is_json }
 {
-    if is_json { TableForm::Json } else { TableForm::Lines }
+    if is_json {
+        TableForm::Json
+    } else {
+        TableForm::Lines
+    }
 }
 
 fn tables_wanted(asked: &SessionsAsked<'_>) -> Result<TablesWanted, Halt>
@@ -48,8 +52,13 @@ fn write_tables<I: Source, O: Sink>(
     out: &mut O,
 ) -> Result<bool, Halt>
     ensures { (i : List ℕ) × Tabulates wanted files.now.keys files.now.isns
-        (record { given = i; input_before = I.side input.old; input_now = I.side input.new;
-        out_before = O.side out.old; out_now = O.side out.new }) result }
+        (record {
+          given = i;
+          input_before = I.side input.old;
+          input_now = I.side input.new;
+          out_before = O.side out.old;
+          out_now = O.side out.new;
+        }) result }
 {
     let (keys, isns) = (files.keys.as_slice(), files.isns.as_slice());
     match write_sessions(alloc, wanted.request, wanted.laps, keys, isns, input, out) {

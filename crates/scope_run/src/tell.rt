@@ -171,12 +171,7 @@ fn push_halt(line: &mut Vec<u8>, word: &[u8], halt: Halt) -> Result<(), AllocErr
 }
 
 /// Tells why a run ended early, as far as `err` takes it; where there is no memory for the text, that.
-pub(crate) fn tell<E: Sink>(
-    alloc: Global,
-    word: &[u8],
-    end: Result<bool, Halt>,
-    err: &mut E,
-)
+pub(crate) fn tell<E: Sink>(alloc: Global, word: &[u8], end: Result<bool, Halt>, err: &mut E)
     ensures { Tells word.now end (E.side err.old) (E.side err.new) }
 {
     let Err(halt) = end else {

@@ -32,8 +32,13 @@ fn explain<I: Source, O: Sink>(
     out: &mut O,
 ) -> Result<bool, Halt>
     ensures { (i : List ℕ) × Explains wanted files.now.keys files.now.isns
-        (record { given = i; input_before = I.side input.old; input_now = I.side input.new;
-        out_before = O.side out.old; out_now = O.side out.new }) result }
+        (record {
+          given = i;
+          input_before = I.side input.old;
+          input_now = I.side input.new;
+          out_before = O.side out.old;
+          out_now = O.side out.new;
+        }) result }
 {
     let (keys, isns) = (files.keys.as_slice(), files.isns.as_slice());
     match write_why(alloc, wanted, keys, isns, input, out) {

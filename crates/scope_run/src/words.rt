@@ -81,7 +81,13 @@ fn few_laps(laps: Option<u64>) -> Option<u32>
     ensures { result ≡ few_laps laps }
 {
     match laps {
-        Some(laps) => { if laps <= MOST_LAPS { Some(laps as u32) } else { None } }
+        Some(laps) => {
+            if laps <= MOST_LAPS {
+                Some(laps as u32)
+            } else {
+                None
+            }
+        }
         None => None,
     }
 }
