@@ -1,2 +1,2 @@
 pub mod FileLaws
-pub mod PlanLaws
+pub mod Said

@@ -1,9 +1,11 @@
 //! The word `plan`.
 ghost use Rattle.std.specs.Prelude.{◌≡◌, ℕ, List, [], Ok};
 ghost use Rattle.ao_base.specs.Outside.{Side};
+ghost use Rattle.book_lines.specs.Said.{said_in};
+ghost use Rattle.book_scope_plan.specs.Connections.{plan_pair_of};
 ghost use Rattle.scope_plan.specs.KeyFiles.{key_file_of};
 ghost use Rattle.scope_run.specs.Acts.{Plans, PlansBy, ReadsAndPlans};
-ghost use Rattle.scope_run.specs.Answers.{Makes, plan_answer};
+ghost use Rattle.scope_run.specs.Answers.{Makes, connections_answer, plan_answer};
 ghost use Rattle.scope_run.specs.Requests.{plan_form_of, plan_wanted};
 ghost use Rattle.scope_run.specs.Sides.{Flow, Given, Sides};
 
@@ -34,8 +36,32 @@ fn form_of(asked: &PlanAsked<'_>) -> PlanForm
     }
 }
 
-/// What is said of the connections of an input, of which there is one, by a key file that has a node.
-#[tactic(auto, using(crate::proofs::PlanLaws::no_node, crate::proofs::PlanLaws::lines_refused, crate::proofs::PlanLaws::nothing_said, crate::proofs::PlanLaws::something_said))]
+/// What is said of the connections of an input, of which there is one.
+#[tactic(auto, using(crate::proofs::Said::refused, crate::proofs::Said::nothing, crate::proofs::Said::something))]
+fn connections_report(
+    alloc: Global,
+    form: PlanForm,
+    file: &KeyFile,
+    plan: Plan,
+    input: &[u8],
+) -> Result<Report, Halt>
+    ensures { Makes result (connections_answer form (key_file_of file.now) plan (said_in plan_pair_of input.now)) }
+{
+    let lines = match answer_plan(alloc, PlanForm::Lines, file, plan, input) {
+        Ok(lines) => lines,
+        Err(stop) => return Err(halt_of_stop(stop)),
+    };
+    if lines.text.as_slice().is_empty() {
+        return Err(Halt::NoConnection);
+    }
+    match form {
+        PlanForm::Lines => Ok(lines),
+        form => made(answer_plan(alloc, form, file, plan, input)),
+    }
+}
+
+/// The same by a key file that has a node.
+#[tactic(auto, using(crate::proofs::Said::no_node, crate::proofs::Said::with_node))]
 fn report_on(
     alloc: Global,
     form: PlanForm,
@@ -48,17 +74,7 @@ fn report_on(
     if file.tables.nodes() == 0 {
         return Err(Halt::NoNode);
     }
-    let lines = match answer_plan(alloc, PlanForm::Lines, file, plan, input) {
-        Ok(lines) => lines,
-        Err(stop) => return Err(halt_of_stop(stop)),
-    };
-    if lines.text.as_slice().is_empty() {
-        return Err(Halt::NoConnection);
-    }
-    match form {
-        PlanForm::Lines => Ok(lines),
-        form => made(answer_plan(alloc, form, file, plan, input)),
-    }
+    connections_report(alloc, form, file, plan, input)
 }
 
 fn answer_by<I: Source, O: Sink>(

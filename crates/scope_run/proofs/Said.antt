@@ -1,4 +1,4 @@
--- The answer on planned rollovers, by the answer in lines.
+-- What is said of planned rollovers, by what is said in lines.
 use Rattle.std.proofs.Common.{◌≡◌, ◌≢◌, ℕ, zero, suc, ◌<◌, Bool, true, false, List, [], ◌∷◌, length, Result, Ok, Err, refl, sym, ap, ◌∙◌, arith, subst}
 use Rattle.book_answer.specs.Answers.{Answer, done, if_read, refusal}
 use Rattle.book_base.specs.declared.address.Pair.{Pair}
@@ -74,19 +74,22 @@ module _ (form : PlanForm) (keys : KeyFile) (plan : Plan) where
   pub no_node : (input : List ℕ) → length keys.tables ≡ 0 → Makes (Err halt.NoNode) (plan_answer form keys plan input)
   no_node input none = no_tables input keys.tables none
 
+  -- it has one
+  pub with_node : (input : List ℕ) (made : Result Report Halt) → length keys.tables ≢ 0 →
+      Makes made (connections_answer form keys plan (said_in plan_pair_of input)) → Makes made (plan_answer form keys plan input)
+  with_node input made some makes = rw (by_tables input keys.tables some) makes
+
   -- the lines are refused
-  pub lines_refused : (input : List ℕ) (why : Stop) → length keys.tables ≢ 0 → Reports (Err why) (if_read (planned_answer Lines keys plan) (said_in plan_pair_of input)) →
-      Makes (Err (halt_of_stop why)) (plan_answer form keys plan input)
-  lines_refused input why some is = rw (by_tables input keys.tables some) (refused_answer (said_in plan_pair_of input) why is)
+  pub refused : (s : Result (List (Said Pair)) TextFault) (why : Stop) → Reports (Err why) (if_read (planned_answer Lines keys plan) s) →
+      Makes (Err (halt_of_stop why)) (connections_answer form keys plan s)
+  refused s why is = refused_answer s why is
 
   -- nothing is said in lines
-  pub nothing_said : (input : List ℕ) (r : Report) → length keys.tables ≢ 0 → r.text ≡ [] →
-      Reports (Ok r) (if_read (planned_answer Lines keys plan) (said_in plan_pair_of input)) → Makes (Err halt.NoConnection) (plan_answer form keys plan input)
-  nothing_said input r some none is = by_tables input keys.tables some ∙ none_answer (said_in plan_pair_of input) r.is_amiss r.text none is
+  pub nothing : (s : Result (List (Said Pair)) TextFault) (r : Report) → r.text ≡ [] → Reports (Ok r) (if_read (planned_answer Lines keys plan) s) →
+      Makes (Err halt.NoConnection) (connections_answer form keys plan s)
+  nothing s r none is = none_answer s r.is_amiss r.text none is
 
   -- something is
-  pub something_said : (input : List ℕ) (r : Report) (made : Result Report Halt) → length keys.tables ≢ 0 → r.text ≢ [] →
-      Reports (Ok r) (if_read (planned_answer Lines keys plan) (said_in plan_pair_of input)) →
-      Makes made (if_read (planned_answer form keys plan) (said_in plan_pair_of input)) → Makes made (plan_answer form keys plan input)
-  something_said input r made some said is makes =
-      rw (by_tables input keys.tables some ∙ same_answer (said_in plan_pair_of input) r.is_amiss r.text said is) makes
+  pub something : (s : Result (List (Said Pair)) TextFault) (r : Report) (made : Result Report Halt) → r.text ≢ [] →
+      Reports (Ok r) (if_read (planned_answer Lines keys plan) s) → Makes made (if_read (planned_answer form keys plan) s) → Makes made (connections_answer form keys plan s)
+  something s r made some is makes = rw (same_answer s r.is_amiss r.text some is) makes
