@@ -46,6 +46,30 @@ pub(crate) fn isns_file<'a>(alloc: Global) -> Arg<'a> {
     option(alloc, "isn", "FILE", help)
 }
 
+/// The file in place of standard input.
+fn input_file<'a>(alloc: Global, help: &'a str) -> Arg<'a> {
+    Arg::new(alloc, "input")
+        .short('r')
+        .value_name("FILE")
+        .help(help)
+        .action(ArgAction::Set)
+}
+
+/// The capture in place of standard input.
+pub(crate) fn capture_file<'a>(alloc: Global) -> Arg<'a> {
+    input_file(alloc, "The capture, in place of standard input")
+}
+
+/// The link file in place of standard input.
+pub(crate) fn link_file<'a>(alloc: Global) -> Arg<'a> {
+    input_file(alloc, "The link file, in place of standard input")
+}
+
+/// The connections in place of standard input.
+pub(crate) fn connections_file<'a>(alloc: Global) -> Arg<'a> {
+    input_file(alloc, "The connections, in place of standard input")
+}
+
 /// The word with what makes a picture in SVG of what `--draw` draws.
 pub(crate) fn with_svg<'a>(
     word: Command<'a>,

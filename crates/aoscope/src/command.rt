@@ -1,4 +1,5 @@
 //! The words that the program knows, with a page of help for each.
+use crate::arguments::capture_file;
 use crate::{draw, echo, keys, plan, sessions, why};
 use clap::Command;
 use std::alloc::{AllocError, Global};
@@ -17,7 +18,8 @@ const LINES_AFTER: &str =
 hexadecimal. Any other is a line `# packet N REASON`, which `aotcp check` counts and passes over: so its line \
 numbers are the packets' numbers in the capture.
 
-    aoscope lines < CAPTURE | aotcp check KEYS";
+    aoscope lines < CAPTURE | aotcp check KEYS
+    aoscope lines -r CAPTURE | aotcp check KEYS";
 
 /// The program's command line with a word more. A word that can't be had ends it here, where alone the words so far
 /// have to be dropped then.
@@ -32,7 +34,8 @@ fn with_word<'a>(
 pub(crate) fn command<'a>(alloc: Global) -> Result<Command<'a>, AllocError> {
     let lines = Command::new(alloc, "lines")
         .about(LINES_ABOUT)
-        .after_help(LINES_AFTER);
+        .after_help(LINES_AFTER)
+        .arg(capture_file(alloc))?;
     let program = Command::new(alloc, "aoscope")
         .version("0.2.0")
         .about(ABOUT)

@@ -1,10 +1,7 @@
 //! The word `draw`: the run of a link file as a ladder.
-use crate::arguments::{flag, key_file_if_any};
-use crate::halt::{Halt, end};
-use crate::inputs::{input, tables_at, write};
+use crate::arguments::{flag, key_file_if_any, link_file};
 use clap::{ArgMatches, Command};
-use page_draw_svg::Form;
-use scope_draw::{answer_draw, answer_draw_keys};
+use scope_run::{Asked, DrawAsked};
 use std::alloc::{AllocError, Global};
 
 const ABOUT: &str = "Draws the run of a link file as a ladder between its two ends";
@@ -33,37 +30,14 @@ pub(crate) fn command<'a>(alloc: Global) -> Result<Command<'a>, AllocError> {
         .about(ABOUT)
         .after_help(AFTER)
         .arg(key_file_if_any(alloc))?
+        .arg(link_file(alloc))?
         .arg(flag(alloc, "svg", "Draw a picture in SVG"))
 }
 
-fn form_of(matches: &ArgMatches<'_>) -> Form {
-    if matches.get_flag("svg") {
-        Form::Svg
-    } else {
-        Form::Text
-    }
-}
-
-/// Draws the run of the link file on standard input.
-fn draw(rt: &HostRuntime, matches: &ArgMatches<'_>) -> Result<bool, Halt> {
-    let form = form_of(matches);
-    match matches.get_str("KEYS") {
-        Some(path) => {
-            let tables = tables_at(rt, path)?;
-            let input = input(rt)?;
-            write(
-                rt,
-                answer_draw_keys(rt.alloc(), form, tables, input.as_slice())?,
-            )
-        }
-        None => {
-            let input = input(rt)?;
-            write(rt, answer_draw(rt.alloc(), form, input.as_slice())?)
-        }
-    }
-}
-
-/// What the word asks for.
-pub(crate) fn run(rt: &HostRuntime, matches: &ArgMatches<'_>) -> u8 {
-    end(rt, draw(rt, matches))
+/// What the words ask for.
+pub(crate) fn asked<'m>(matches: &'m ArgMatches<'_>) -> Option<Asked<'m>> {
+    Some(Asked::Draw(DrawAsked {
+        has_keys: matches.get_str("KEYS").is_some(),
+        svg: matches.get_flag("svg"),
+    }))
 }

@@ -1,9 +1,7 @@
 //! The word `echo`: the report of a link file's run beside the lines of its events.
-use crate::arguments::key_file_if_any;
-use crate::halt::{Halt, end};
-use crate::inputs::{input, tables_at, write};
+use crate::arguments::{key_file_if_any, link_file};
 use clap::{ArgMatches, Command};
-use scope_echo::{answer_echo, answer_echo_keys};
+use scope_run::{Asked, EchoAsked};
 use std::alloc::{AllocError, Global};
 
 const ABOUT: &str = "Writes the report of a link file's run with each event's own line beside it";
@@ -23,25 +21,13 @@ pub(crate) fn command<'a>(alloc: Global) -> Result<Command<'a>, AllocError> {
     Command::new(alloc, "echo")
         .about(ABOUT)
         .after_help(AFTER)
-        .arg(key_file_if_any(alloc))
+        .arg(key_file_if_any(alloc))?
+        .arg(link_file(alloc))
 }
 
-/// Writes the report of the link file on standard input.
-fn echo(rt: &HostRuntime, matches: &ArgMatches<'_>) -> Result<bool, Halt> {
-    match matches.get_str("KEYS") {
-        Some(path) => {
-            let tables = tables_at(rt, path)?;
-            let input = input(rt)?;
-            write(rt, answer_echo_keys(rt.alloc(), tables, input.as_slice())?)
-        }
-        None => {
-            let input = input(rt)?;
-            write(rt, answer_echo(rt.alloc(), input.as_slice())?)
-        }
-    }
-}
-
-/// What the word asks for.
-pub(crate) fn run(rt: &HostRuntime, matches: &ArgMatches<'_>) -> u8 {
-    end(rt, echo(rt, matches))
+/// What the words ask for.
+pub(crate) fn asked<'m>(matches: &'m ArgMatches<'_>) -> Option<Asked<'m>> {
+    Some(Asked::Echo(EchoAsked {
+        has_keys: matches.get_str("KEYS").is_some(),
+    }))
 }

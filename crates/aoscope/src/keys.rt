@@ -1,9 +1,7 @@
 //! The word `keys`: all that is wrong with a key file, told to the person who writes it.
 use crate::arguments::key_file;
-use crate::halt::{Halt, end};
-use crate::inputs::{keys_at, required, write};
 use clap::{ArgMatches, Command};
-use scope_keys::answer_keys;
+use scope_run::Asked;
 use std::alloc::{AllocError, Global};
 
 const ABOUT: &str = "Says all that is wrong with a key file, where, and what is wanted there";
@@ -30,13 +28,7 @@ pub(crate) fn command<'a>(alloc: Global) -> Result<Command<'a>, AllocError> {
         .arg(key_file(alloc))
 }
 
-/// Writes what is wrong with the key file.
-fn judge(rt: &HostRuntime, matches: &ArgMatches<'_>) -> Result<bool, Halt> {
-    let text = keys_at(rt, required(matches, "KEYS")?)?;
-    write(rt, answer_keys(rt.alloc(), text.as_slice())?)
-}
-
-/// What the word asks for.
-pub(crate) fn run(rt: &HostRuntime, matches: &ArgMatches<'_>) -> u8 {
-    end(rt, judge(rt, matches))
+/// What the words ask for.
+pub(crate) fn asked<'m>(_matches: &'m ArgMatches<'_>) -> Option<Asked<'m>> {
+    Some(Asked::Keys)
 }

@@ -5,27 +5,23 @@ mod arguments;
 mod command;
 mod draw;
 mod echo;
-mod halt;
-mod inputs;
 mod keys;
+mod opening;
 mod plan;
-mod retire;
-mod session_ladder;
+mod running;
 mod sessions;
 mod sessions_page;
-mod unopened;
 mod waiting;
 mod why;
 
-use ao_base::{ReadSource, WriteSink};
+use ao_base::{WriteSink, write_all};
 use clap::error::ErrorKind;
 use clap::{ArgMatches, Error};
 use command::command;
-use halt::{Halt, end, tell};
-use scope_lines::write_lines;
+use running::{Paths, run_files};
+use scope_run::Asked;
 use std::process::ExitCode;
 use std::{env, io};
-use waiting::tell_waiting;
 
 /// The words of the command line, the program's name first; an error where one isn't UTF-8.
 fn words(rt: &HostRuntime) -> io::Result<Vec<String>> {
@@ -36,46 +32,66 @@ fn words(rt: &HostRuntime) -> io::Result<Vec<String>> {
     Ok(words)
 }
 
-/// Writes the lines of the capture on standard input; nothing is amiss then.
-fn lines(rt: &HostRuntime) -> Result<bool, Halt> {
-    let mut input = ReadSource::new(rt.stdin());
-    let mut out = WriteSink::new(rt.stdout());
-    write_lines(rt.alloc(), &mut input, &mut out)?;
-    Ok(false)
+/// Tells a text on standard error, as far as it takes it, and answers the status.
+fn tell(rt: &HostRuntime, text: &[u8], status: u8) -> u8 {
+    let _ = write_all(&mut WriteSink::new(rt.stderr()), text);
+    status
+}
+
+/// Tells that memory ran out.
+fn out_of_memory(rt: &HostRuntime) -> u8 {
+    tell(rt, b"memory\n", 7)
+}
+
+/// What a word asks for, by its arguments; none where one that the command line requires isn't there.
+fn asked<'m>(word: &str, matches: &'m ArgMatches<'_>) -> Option<Asked<'m>> {
+    match word {
+        "lines" => Some(Asked::Lines),
+        "sessions" => sessions::asked(matches),
+        "why" => why::asked(matches),
+        "keys" => keys::asked(matches),
+        "plan" => plan::asked(matches),
+        "draw" => draw::asked(matches),
+        "echo" => echo::asked(matches),
+        _ => None,
+    }
+}
+
+/// The files that the words name; none for an argument that a word doesn't have.
+fn paths<'m>(matches: &'m ArgMatches<'_>) -> Paths<'m> {
+    Paths {
+        keys: matches.get_str("KEYS"),
+        isns: matches.get_str("isn"),
+        input: matches.get_str("input"),
+    }
 }
 
 /// What the words ask for.
 fn run(rt: &HostRuntime, matches: &ArgMatches<'_>) -> u8 {
-    if let Some((word, _)) = matches.subcommand() {
-        let _ = tell_waiting(rt, word);
-    }
-    match matches.subcommand() {
-        Some(("lines", _)) => end(rt, lines(rt)),
-        Some(("sessions", matches)) => sessions::run(rt, matches),
-        Some(("why", matches)) => why::run(rt, matches),
-        Some(("keys", matches)) => keys::run(rt, matches),
-        Some(("plan", matches)) => plan::run(rt, matches),
-        Some(("draw", matches)) => draw::run(rt, matches),
-        Some(("echo", matches)) => echo::run(rt, matches),
-        _ => tell(rt, &Halt::Memory),
+    let Some((word, matches)) = matches.subcommand() else {
+        return out_of_memory(rt);
+    };
+    match asked(word, matches) {
+        Some(asked) => run_files(rt, word, &asked, paths(matches)),
+        None => out_of_memory(rt),
     }
 }
 
 /// Help, or why the words are refused.
 fn explain(rt: &HostRuntime, error: &Error) -> u8 {
     if let ErrorKind::OutOfMemory = error.kind() {
-        return tell(rt, &Halt::Memory);
+        return out_of_memory(rt);
     }
     match error.print(rt) {
         Ok(()) => error.exit_code() as u8,
-        Err(_) => tell(rt, &Halt::Write),
+        Err(_) => tell(rt, b"write fault\n", 6),
     }
 }
 
 fn answer<'w>(rt: &HostRuntime, words: &'w [String]) -> u8 {
     let command = match command(rt.alloc()) {
         Ok(command) => command,
-        Err(_) => return tell(rt, &Halt::Memory),
+        Err(_) => return out_of_memory(rt),
     };
     match command.try_get_matches_from(words) {
         Ok(matches) => run(rt, &matches),
@@ -88,9 +104,9 @@ fn main(rt: HostRuntime) -> ExitCode {
         Ok(words) => answer(&rt, words.as_slice()),
         Err(error) => {
             if error.kind() == io::ErrorKind::OutOfMemory {
-                tell(&rt, &Halt::Memory)
+                out_of_memory(&rt)
             } else {
-                tell(&rt, &Halt::Usage("a word is not UTF-8"))
+                tell(&rt, b"usage: a word is not UTF-8\n", 2)
             }
         }
     };

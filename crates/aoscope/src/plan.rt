@@ -1,13 +1,7 @@
 //! The word `plan`: what is said of the planned rollovers of connections.
-use crate::arguments::{flag, key_file, required_word, with_svg};
-use crate::halt::{Halt, end};
-use crate::inputs::{duration, input, instant, keys_at, required, write};
-use book_cmd_keys::Plan;
-use book_draw_plan::PlanForm;
+use crate::arguments::{connections_file, flag, key_file, required_word, with_svg};
 use clap::{ArgMatches, Command};
-use command_report::Report;
-use key_table::LATEST;
-use scope_plan::{KeyFile, answer_plan, read_key_file};
+use scope_run::{Asked, PlanAsked};
 use std::alloc::{AllocError, Global};
 
 const ABOUT: &str =
@@ -55,75 +49,21 @@ pub(crate) fn command<'a>(alloc: Global) -> Result<Command<'a>, AllocError> {
         .arg(flag(alloc, "draw", "Draw the use of each row over time, as bars"))?;
     with_svg(word, alloc, "Draw them as a picture in SVG")?
         .arg(key_file(alloc))?
+        .arg(connections_file(alloc))?
         .arg(required_word(alloc, "LEAD", lead))?
         .arg(required_word(alloc, "LAG", lag))?
         .arg(required_word(alloc, "FROM", from))?
         .arg(required_word(alloc, "TO", "The last time at which it is"))
 }
 
-/// By how much clocks may be behind and ahead, and between which times the plan is looked at: FROM isn't after TO,
-/// and LEAD and LAG are no longer than the last time of a key file, as `aotcp lint` has it.
-fn plan_of(matches: &ArgMatches<'_>) -> Result<Plan, Halt> {
-    let plan = Plan {
-        lead: duration("LEAD", required(matches, "LEAD")?)?,
-        lag: duration("LAG", required(matches, "LAG")?)?,
-        from: instant("FROM", required(matches, "FROM")?)?,
-        to: instant("TO", required(matches, "TO")?)?,
-    };
-    if plan.lead > LATEST {
-        Err(Halt::Usage("LEAD is more than 253402300799 seconds"))
-    } else if plan.lag > LATEST {
-        Err(Halt::Usage("LAG is more than 253402300799 seconds"))
-    } else if plan.from > plan.to {
-        Err(Halt::Usage("FROM is after TO"))
-    } else {
-        Ok(plan)
-    }
-}
-
-fn form_of(matches: &ArgMatches<'_>) -> PlanForm {
-    match (matches.get_flag("draw"), matches.get_flag("svg")) {
-        (false, _) => PlanForm::Lines,
-        (true, false) => PlanForm::Bars,
-        (true, true) => PlanForm::Picture,
-    }
-}
-
-/// What is said of the connections of an input, of which there is one, by a key file that has a node.
-fn report_on(
-    alloc: Global,
-    form: PlanForm,
-    keys: &KeyFile,
-    plan: Plan,
-    input: &[u8],
-) -> Result<Report, Halt> {
-    if keys.tables.nodes() == 0 {
-        return Err(Halt::NoNode);
-    }
-    let lines = answer_plan(alloc, PlanForm::Lines, keys, plan, input)?;
-    if lines.text.as_slice().is_empty() {
-        return Err(Halt::NoConnection);
-    }
-    match form {
-        PlanForm::Lines => Ok(lines),
-        form => Ok(answer_plan(alloc, form, keys, plan, input)?),
-    }
-}
-
-/// Writes what is said of the connections on standard input.
-fn judge(rt: &HostRuntime, matches: &ArgMatches<'_>) -> Result<bool, Halt> {
-    let plan = plan_of(matches)?;
-    let text = keys_at(rt, required(matches, "KEYS")?)?;
-    let keys = read_key_file(rt.alloc(), text.as_slice())?;
-    let input = input(rt)?;
-    let form = form_of(matches);
-    write(
-        rt,
-        report_on(rt.alloc(), form, &keys, plan, input.as_slice())?,
-    )
-}
-
-/// What the word asks for.
-pub(crate) fn run(rt: &HostRuntime, matches: &ArgMatches<'_>) -> u8 {
-    end(rt, judge(rt, matches))
+/// What the words ask for; none where an argument that the command line requires isn't there.
+pub(crate) fn asked<'m>(matches: &'m ArgMatches<'_>) -> Option<Asked<'m>> {
+    Some(Asked::Plan(PlanAsked {
+        draw: matches.get_flag("draw"),
+        svg: matches.get_flag("svg"),
+        lead: matches.get_str("LEAD")?.as_bytes(),
+        lag: matches.get_str("LAG")?.as_bytes(),
+        from: matches.get_str("FROM")?.as_bytes(),
+        to: matches.get_str("TO")?.as_bytes(),
+    }))
 }

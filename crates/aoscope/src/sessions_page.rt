@@ -58,6 +58,7 @@ Status 0: all segments of sessions that aren't foreign are verified; 1: one isn'
 packet that can't be read may be a segment; 3: keys; 4: also FILE; the others as above.
 
     aoscope sessions KEYS < CAPTURE
+    aoscope sessions KEYS -r CAPTURE
     aoscope sessions KEYS --isn FILE < CAPTURE
     aoscope sessions KEYS --isn FILE --laps 8 < CAPTURE
     aoscope sessions KEYS --retire 2026 < CAPTURE

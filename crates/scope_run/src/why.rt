@@ -1,0 +1,88 @@
+//! The word `why`.
+ghost use Rattle.std.specs.Prelude.{◌≡◌, ℕ, List};
+ghost use Rattle.ao_base.specs.Outside.{Side};
+ghost use Rattle.scope_run.specs.Acts.{Explains, ExplainsBy, ReadsAndExplains};
+ghost use Rattle.scope_run.specs.Requests.{why_wanted};
+ghost use Rattle.scope_run.specs.Sides.{Flow, Given, Sides};
+
+use crate::asked::PacketAsked;
+use crate::halt::halt_of_judging;
+use crate::reading::{Files, read_files};
+use crate::words::numbered_packet;
+use ao_base::{Sink, Source};
+use book_scope_run::Halt;
+use scope_why::{WhyRequest, write_why};
+use std::alloc::Global;
+
+fn why_wanted(asked: &PacketAsked<'_>) -> Result<WhyRequest, Halt>
+    ensures { result ≡ why_wanted asked.now }
+{
+    let number = numbered_packet(asked.number)?;
+    Ok(WhyRequest {
+        number,
+        with_key: asked.with_key,
+    })
+}
+
+fn explain<I: Source, O: Sink>(
+    alloc: Global,
+    wanted: WhyRequest,
+    files: &Files,
+    input: &mut I,
+    out: &mut O,
+) -> Result<bool, Halt>
+    ensures { (i : List ℕ) × Explains wanted files.now.keys files.now.isns
+        (record {
+          given = i;
+          input_before = I.side input.old;
+          input_now = I.side input.new;
+          out_before = O.side out.old;
+          out_now = O.side out.new;
+        }) result }
+{
+    let (keys, isns) = (files.keys.as_slice(), files.isns.as_slice());
+    match write_why(alloc, wanted, keys, isns, input, out) {
+        Ok(passes) => Ok(!passes),
+        Err(halt) => Err(halt_of_judging(halt)),
+    }
+}
+
+fn read_and_explain<K: Source, J: Source, I: Source, O: Sink>(
+    alloc: Global,
+    wanted: WhyRequest,
+    has_isns: bool,
+    keys: &mut K,
+    isns: &mut J,
+    input: &mut I,
+    out: &mut O,
+) -> Result<bool, Halt>
+    ensures { (g : Given) × ReadsAndExplains has_isns wanted g
+        (record { keys = K.side keys.old; isns = J.side isns.old; input = I.side input.old; out = O.side out.old })
+        (record { keys = K.side keys.new; isns = J.side isns.new; input = I.side input.new; out = O.side out.new })
+        result }
+{
+    match read_files(alloc, has_isns, keys, isns) {
+        Ok(files) => explain(alloc, wanted, &files, input, out),
+        Err(why) => Err(why),
+    }
+}
+
+/// Writes the answer on the packet that the words ask for; one that doesn't pass is amiss.
+pub(crate) fn act<K: Source, J: Source, I: Source, O: Sink>(
+    alloc: Global,
+    asked: &PacketAsked<'_>,
+    keys: &mut K,
+    isns: &mut J,
+    input: &mut I,
+    out: &mut O,
+) -> Result<bool, Halt>
+    ensures { (g : Given) × ExplainsBy asked.now g
+        (record { keys = K.side keys.old; isns = J.side isns.old; input = I.side input.old; out = O.side out.old })
+        (record { keys = K.side keys.new; isns = J.side isns.new; input = I.side input.new; out = O.side out.new })
+        result }
+{
+    match why_wanted(asked) {
+        Ok(wanted) => read_and_explain(alloc, wanted, asked.has_isns, keys, isns, input, out),
+        Err(why) => Err(why),
+    }
+}
