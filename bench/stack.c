@@ -1,5 +1,6 @@
-/* stack CONNECTIONS MEGABYTES: two stacks in memory with so many connections between them, of which the first carries so many
- * megabytes one way while the others are idle. Prints the seconds of a processor that this takes. See stack.py. */
+/* stack CONNECTIONS BUSY MEGABYTES: two stacks in memory with so many connections between them, of which the first BUSY carry so many
+ * megabytes one way, in turns, while the others are idle. Prints the seconds of a processor that this takes, and how many datagrams
+ * were handed over. See stack.py. */
 #define _POSIX_C_SOURCE 200809L
 #include "aotcp.h"
 
@@ -14,9 +15,12 @@
     "ProtocolSpecificInfo = \"options\"\nKDF = \"HMAC-SHA-1\"\nAlgID = \"HMAC-SHA-1-96\"\n"            \
     "Key = \"000102030405060708090a0b0c0d0e0f10111213\"\nDirection = \"both\"\n"
 
-enum { CLIENT, SERVER, PIECE = 16384 };
+/* A piece is three segments. */
+enum { CLIENT, SERVER, PIECE = 4096, RING = 65536 };
 
-static const uint64_t NOW = 1795824000000u;
+/* The time, in milliseconds since 1970, and the datagrams so far. */
+static uint64_t now = 1795824000000u;
+static unsigned long datagrams;
 static struct aotcp_stack stacks[2];
 
 static void check(bool right, const char *what) {
@@ -37,8 +41,8 @@ static unsigned pass(int end) {
     size_t length;
     unsigned count = 0;
     struct aotcp_heard heard;
-    while (aotcp_output(&stacks[end], NOW, datagram, sizeof datagram, &length) == AOTCP_OK) {
-        check(aotcp_input(&stacks[1 - end], NOW, datagram, length, &heard) == AOTCP_OK && heard.passed, "a segment passes");
+    while (aotcp_output(&stacks[end], now, datagram, sizeof datagram, &length) == AOTCP_OK) {
+        check(aotcp_input(&stacks[1 - end], now, datagram, length, &heard) == AOTCP_OK && heard.passed, "a segment passes");
         count++;
     }
     return count;
@@ -66,29 +70,41 @@ static void connect_all(unsigned connections) {
     }
 }
 
-static void move(size_t total) {
-    static uint8_t piece[PIECE], room[65536];
-    struct aotcp_pair client = pair(CLIENT, 0), server = pair(SERVER, 0);
+/* Each turn gives a piece to every busy connection, hands over what is due, reads it at the other end, and hands over the
+ * acknowledgements: so all of them stand in line and have their timers running at the same time. A turn takes a millisecond. */
+static void move(unsigned busy, size_t total) {
+    static uint8_t piece[PIECE], room[PIECE];
     struct aotcp_taken taken;
-    for (size_t given = 0, came = 0; came < total; came += taken.count) {
-        size_t next = total - given < sizeof piece ? total - given : sizeof piece;
-        if (next > 0 && aotcp_write(&stacks[CLIENT], &client, piece, next) == AOTCP_OK) given += next;
-        pass(CLIENT);
-        check(aotcp_read(&stacks[SERVER], &server, room, sizeof room, &taken) == AOTCP_OK, "bytes are read");
-        pass(SERVER);
+    for (size_t came = 0; came < total; now++) {
+        for (unsigned i = 0; i < busy; i++) {
+            struct aotcp_pair client = pair(CLIENT, i);
+            check(aotcp_write(&stacks[CLIENT], &client, piece, sizeof piece) == AOTCP_OK, "a piece is given");
+        }
+        datagrams += pass(CLIENT);
+        for (unsigned i = 0; i < busy; i++) {
+            struct aotcp_pair server = pair(SERVER, i);
+            check(aotcp_read(&stacks[SERVER], &server, room, sizeof room, &taken) == AOTCP_OK && taken.count == sizeof piece, "a piece is read");
+            came += taken.count;
+        }
+        datagrams += pass(SERVER);
     }
 }
 
 int main(int argc, char **argv) {
     struct timespec before, after;
-    if (argc != 3) return 2;
+    if (argc != 4) return 2;
     begin(CLIENT);
     begin(SERVER);
     connect_all((unsigned)strtoul(argv[1], NULL, 10));
+    /* First as much as fills the buffers of each connection once, so that no page of memory is new later. */
+    unsigned busy = (unsigned)strtoul(argv[2], NULL, 10);
+    move(busy, (size_t)busy * RING);
+    datagrams = 0;
     clock_gettime(CLOCK_PROCESS_CPUTIME_ID, &before);
-    move(1000000 * strtoul(argv[2], NULL, 10));
+    move(busy, 1000000 * strtoul(argv[3], NULL, 10));
     clock_gettime(CLOCK_PROCESS_CPUTIME_ID, &after);
-    printf("%.6f\n", (double)(after.tv_sec - before.tv_sec) + 1e-9 * (double)(after.tv_nsec - before.tv_nsec));
+    double seconds = (double)(after.tv_sec - before.tv_sec) + 1e-9 * (double)(after.tv_nsec - before.tv_nsec);
+    printf("%.6f %lu\n", seconds, datagrams);
     aotcp_free(&stacks[CLIENT]);
     aotcp_free(&stacks[SERVER]);
     return 0;
