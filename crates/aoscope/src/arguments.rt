@@ -57,17 +57,17 @@ fn input_file<'a>(alloc: Global, help: &'a str) -> Arg<'a> {
 
 /// The capture in place of standard input.
 pub(crate) fn capture_file<'a>(alloc: Global) -> Arg<'a> {
-    input_file(alloc, "The capture, in place of standard input")
+    input_file(alloc, "The capture file, instead of standard input")
 }
 
 /// The link file in place of standard input.
 pub(crate) fn link_file<'a>(alloc: Global) -> Arg<'a> {
-    input_file(alloc, "The link file, in place of standard input")
+    input_file(alloc, "The link file, instead of standard input")
 }
 
 /// The connections in place of standard input.
 pub(crate) fn connections_file<'a>(alloc: Global) -> Arg<'a> {
-    input_file(alloc, "The connections, in place of standard input")
+    input_file(alloc, "The file of connections, instead of standard input")
 }
 
 /// The word with what makes a picture in SVG of what `--draw` draws.

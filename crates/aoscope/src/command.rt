@@ -1,22 +1,26 @@
 //! The words that the program knows, with a page of help for each.
 use crate::arguments::capture_file;
-use crate::{draw, echo, keys, plan, sessions, why};
+use crate::{check, draw, echo, keys, plan, sessions, why};
 use clap::Command;
 use std::alloc::{AllocError, Global};
 
 const ABOUT: &str =
-    "Reads captures of TCP-AO, of any form: pcap and pcapng, behind VLAN tags, PPPoE and MPLS";
+    "Answers an operator's questions about TCP-AO: captures, key files, planned rollovers";
 
 const AFTER: &str =
-    "Status 0: done; 1: amiss; 2: usage; 3: keys; 4: input; 5: a read failed; 6: a write failed; 7: out of memory.";
+    "Captures are pcap or pcapng files of any link type that is in use: Ethernet, Linux cooked, raw IP, loopback, \
+with VLAN tags, PPPoE and MPLS.
+
+Exit status: 0, done; 1, done, and something is wrong; 2, usage; 3, faulty key file; 4, faulty input; 5, a read \
+failed; 6, a write failed; 7, out of memory.";
 
 const LINES_ABOUT: &str =
-    "Writes the capture on standard input as lines for `aotcp check`, one for each packet";
+    "Converts a capture to lines that `aotcp check` reads, one for each packet";
 
 const LINES_AFTER: &str =
-    "A packet that has a datagram is its time, in seconds since 1970, and the datagram in \
-hexadecimal. Any other is a line `# packet N REASON`, which `aotcp check` counts and passes over: so its line \
-numbers are the packets' numbers in the capture.
+    "Each packet with an IP datagram becomes a line with its time, in seconds since 1970, and the datagram in \
+hexadecimal. Any other packet becomes a line `# packet N REASON`. `aotcp check` skips such a line but counts \
+it, so its line numbers are packet numbers.
 
     aoscope lines < CAPTURE | aotcp check KEYS
     aoscope lines -r CAPTURE | aotcp check KEYS";
@@ -43,6 +47,7 @@ pub(crate) fn command<'a>(alloc: Global) -> Result<Command<'a>, AllocError> {
         .subcommand_required(true)
         .arg_required_else_help(true)
         .subcommand(lines)?;
+    let program = with_word(program, check::command(alloc))?;
     let program = with_word(program, sessions::command(alloc))?;
     let program = with_word(program, why::command(alloc))?;
     let program = with_word(program, keys::command(alloc))?;

@@ -7,19 +7,19 @@ use std::alloc::{AllocError, Global};
 const ABOUT: &str = "Draws the run of a link file as a ladder between its two ends";
 
 const AFTER: &str =
-    "The link file, as `aotcp link` takes it, is read from standard input; KEYS is a key file \
-of `aotcp`, where the link file names no key. Each end is an upright stroke, with its clock, its calls, its phases \
-and its answers beside it. A segment is an arrow with its number in the report of `aotcp link`, its flags, the key \
-that it is under and the key that it asks for. One that ends in X was lost: it is never delivered. One that comes \
-as soon as it is made is one line; else its arrow leaves in one line and comes in a later one, which says whether \
-it came before (again) and whether one that was made later came before it (late). A stroke of ~ is of a copy that \
-was altered, and one of = of a datagram that was injected.
+    "The link file, as for `aotcp link`, is read from standard input; KEYS is a key file, and is left out if the \
+link file names the key. Each end is a vertical line, with its clock, calls, phases and answers beside it. A \
+segment is an arrow with its number in the report of `aotcp link`, its flags, the key that it is under and the \
+key that it asks for. An arrow that ends in X was lost: it is never delivered. A segment that arrives as soon \
+as it is sent takes one line; otherwise its arrow leaves on one line and arrives on a later one, which tells \
+whether it had arrived before (again) and whether a later one had (late). The stroke is ~ for an altered copy, \
+and = for an injected datagram.
 
-With --svg it is a picture that a browser shows: a row for each of these, an arrow from where a segment is made to \
-where it comes, in a colour for each KeyID; a segment that is lost, one that comes again, one that was altered and \
-one that was injected have strokes of their own, and each arrow has a title with all that is written beside it.
+With --svg the ladder is a picture for a browser: an arrow from where a segment is sent to where it arrives, in \
+the colour of its KeyID. Segments that are lost, that arrive again, that were altered and that were injected \
+have strokes of their own, and each arrow has a title with all that is written beside it.
 
-Status 0: done; 3: keys; the others as above.
+Exit status: 0, drawn; 3, faulty key file; the others as in `aoscope --help`.
 
     aoscope draw KEYS < LINKFILE
     aoscope draw --svg KEYS < LINKFILE > PICTURE.svg";
@@ -31,7 +31,7 @@ pub(crate) fn command<'a>(alloc: Global) -> Result<Command<'a>, AllocError> {
         .after_help(AFTER)
         .arg(key_file_if_any(alloc))?
         .arg(link_file(alloc))?
-        .arg(flag(alloc, "svg", "Draw a picture in SVG"))
+        .arg(flag(alloc, "svg", "Draw the ladder as a picture in SVG"))
 }
 
 /// What the words ask for.

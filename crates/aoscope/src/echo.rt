@@ -4,15 +4,15 @@ use clap::{ArgMatches, Command};
 use scope_run::{Asked, EchoAsked};
 use std::alloc::{AllocError, Global};
 
-const ABOUT: &str = "Writes the report of a link file's run with each event's own line beside it";
+const ABOUT: &str = "Writes the report of a link file's run with the line of each event beside it";
 
 const AFTER: &str =
-    "The link file, as `aotcp link` takes it, is read from standard input; KEYS is a key file \
-of `aotcp`, where the link file names no key. What is written is the report of `aotcp link`: in front of the line of \
-each event stand its number and its line of the link file, and an arrow. Behind that of an event that sets a clock \
-stands a line with the time that the clock shows. The lines of the sessions and the counts follow as they are.
+    "The link file, as for `aotcp link`, is read from standard input; KEYS is a key file, and is left out if the \
+link file names the key. The output is the report of `aotcp link`, with the number and the text of each event's \
+line in front of its own, and an arrow between them. After an event that sets a clock comes a line with the \
+time that it shows. The lines of the sessions and the counts follow unchanged.
 
-Status 0: done; 1: a forgery is counted; 3: keys; the others as above.
+Exit status: 0, done; 1, a forgery is counted; 3, faulty key file; the others as in `aoscope --help`.
 
     aoscope echo KEYS < LINKFILE";
 

@@ -4,19 +4,21 @@ use clap::{ArgMatches, Command};
 use scope_run::Asked;
 use std::alloc::{AllocError, Global};
 
-const ABOUT: &str = "Says all that is wrong with a key file, where, and what is wanted there";
+const ABOUT: &str =
+    "Lists everything that is wrong with a key file, with the place and what is wanted there";
 
 const AFTER: &str =
-    "KEYS is a key file of `aotcp`. Of each fault there is a line: the place in the file, the field and \
-whose it is, its value, and what is wanted. All faults of all rows and nodes are told, in the order of the nodes, their \
-rows and the columns; of a key that is none, which one is like it. The master key is never shown: of a value at Key its \
-type and length alone. Where no field is faulty, the first two rows that overlap are. Of a file that isn't TOML it is \
-said from where on, and why. A place is told where each header and each field begins a line of its own, in the form of \
-the examples; in other files none is.
+    "Each fault gets a line: the place in the file, the field and whose it is, its value, and what is wanted. All \
+faults of all nodes and rows are listed, in the order of the nodes, their rows and the columns; an unknown \
+field comes with the known one that looks like it. If no field is faulty, the first two rows that overlap are \
+named. If the file isn't TOML, the line tells from where on, and why. The place is given only if each header \
+and each field begins a line of its own, as in the examples. A master key is never shown: of a value at Key \
+only the type and the length are.
 
-A file that `aotcp` takes and that has a node has the line `no faults: N nodes, N rows`.
+If `aotcp` takes the file and it has a node, the only line is `no faults: N nodes, N rows`.
 
-Status 0: no faults; 1: faults, or no node; 3: the file is too long; 5: it can't be read; the others as above.
+Exit status: 0, no faults; 1, faults, or no node; 3, the file is too long; 5, it can't be read; the others as \
+in `aoscope --help`.
 
     aoscope keys KEYS";
 

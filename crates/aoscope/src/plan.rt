@@ -4,36 +4,35 @@ use clap::{ArgMatches, Command};
 use scope_run::{Asked, PlanAsked};
 use std::alloc::{AllocError, Global};
 
-const ABOUT: &str =
-    "Says of each connection how its keys change, what is wrong with the plan, and what to set";
+const ABOUT: &str = "Checks a planned key rollover for each connection, and says what to change";
 
 const AFTER: &str =
-    "KEYS is a key file of `aotcp`. LEAD and LAG say by how much the clock of a receiver may be \
-behind and ahead: seconds, or with a unit as in 90s, 10m, 2h, 1d. FROM and TO are the times between which the \
-plan is looked at, as 2026-12-31T23:55:00Z or 20261231235500Z. Each line of standard input is a connection, \
-ADDRESS PORT ADDRESS PORT; an empty line and one that begins with # say nothing.
+    "KEYS is a key file. LEAD and LAG are by how much a receiver's clock may be behind and ahead: seconds, or with a \
+unit, as in 90s, 10m, 2h, 1d. FROM and TO are the times between which the plan is checked, as \
+2026-12-31T23:55:00Z or 20261231235500Z. Each line of standard input is a connection, ADDRESS PORT ADDRESS \
+PORT; empty lines and lines that begin with # are skipped.
 
-Of each connection there is a line for each time after FROM until TO at which a row begins or ends to be \
-accepted or sent with, or begins to be asked for; then each row that the other end doesn't take, and in which \
-columns the nearest differ or what a lifetime is to be set to; then each gap in which a node has no row to send \
-with. Where nothing is wrong it says aligned, and up to which LEAD and LAG it stays so. Where in that time neither end \
-begins to send with another row it says that no key changes. A line that begins with note: tells what is \
-worth a look though it may hold: a key that never ends, is short, was used before or ends in a line feed, and times of one \
-end that are all later by the same whole hours.
+For each connection there is first its calendar, a line for each time between FROM and TO at which a row begins \
+or ends to be accepted or sent with, or begins to be asked for; then each row that the other end doesn't take, \
+with the columns in which the nearest row differs or the lifetime to set; then each gap, in which a node has no \
+row to send with. If nothing is wrong, a line says aligned, and up to which LEAD and LAG it stays so. If \
+neither end begins to send with another row in this time, a line says that no key changes. A line that begins \
+with note: points out what may hold but is worth a look: a key that never ends, is short, was used before or \
+ends in a line feed, and times of one end that are all later by the same whole hours.
 
-With --draw there is a bar instead for each row that may send from FROM to TO, and right after it one for each row \
-of the other end that accepts under its id: # is a column in each second of which it does so, + one in some of which. \
-Where something is wrong, a line below them marks with ! each column in which a row that the other end doesn't take \
-may send, or a node has no row to send with. Above two connections or more stands how many are aligned.
+With --draw the plan is drawn in bars: one for each row that may send between FROM and TO, and below it one for \
+each row of the other end that accepts its id. A column is # if the row does so in each of its seconds, and + \
+if in some of them. Below, ! marks each column in which a row may send that the other end doesn't take, or a \
+node has no row to send with. With two connections or more, the first line tells how many are aligned.
 
-With --draw --svg these bars are one picture that a browser shows, with dates, each bar at the very seconds in which \
-its row does so, in a colour for each KeyID, filled where it sends and white where it accepts; a triangle says that \
-it goes on before FROM or after TO. Below them a black box stands over the seconds of each finding. Each bar has a \
-title with the whole lifetime of its row, and each box one that says when it is.
+With --draw --svg the bars are one picture for a browser, with dates, each bar to the second and in the colour \
+of its KeyID, filled if the row sends and white if it accepts; a triangle means that it goes on before FROM or \
+after TO. A black box below marks the seconds of each finding. Titles give the whole lifetime of a row and the \
+times of a finding.
 
-Status 0: all plans are aligned and change a key; 1: one isn't or doesn't, or no node has an address, or there is no \
-connection or no node; 2: usage, \
-also where FROM is after TO; 3: keys; the others as above.
+Exit status: 0, every plan is aligned and changes a key; 1, one isn't or doesn't, no node has an address, or \
+there is no connection or no node; 2, usage, also if FROM is after TO; 3, faulty key file; the others as in \
+`aoscope --help`.
 
     aoscope plan KEYS 60 60 2026-12-01T00:00:00Z 2027-02-01T00:00:00Z < CONNECTIONS
     aoscope plan --draw --svg KEYS 60 60 2026-12-01T00:00:00Z 2027-02-01T00:00:00Z < CONNECTIONS > PICTURE.svg";
@@ -42,18 +41,18 @@ also where FROM is after TO; 3: keys; the others as above.
 pub(crate) fn command<'a>(alloc: Global) -> Result<Command<'a>, AllocError> {
     let lead = "By how much a receiver's clock may be behind";
     let lag = "By how much a receiver's clock may be ahead";
-    let from = "The time from which on the plan is looked at";
+    let from = "Start of the time that is checked";
     let word = Command::new(alloc, "plan")
         .about(ABOUT)
         .after_help(AFTER)
-        .arg(flag(alloc, "draw", "Draw the use of each row over time, as bars"))?;
-    with_svg(word, alloc, "Draw them as a picture in SVG")?
+        .arg(flag(alloc, "draw", "Draw in bars when each row is used"))?;
+    with_svg(word, alloc, "Draw the bars as a picture in SVG")?
         .arg(key_file(alloc))?
         .arg(connections_file(alloc))?
         .arg(required_word(alloc, "LEAD", lead))?
         .arg(required_word(alloc, "LAG", lag))?
         .arg(required_word(alloc, "FROM", from))?
-        .arg(required_word(alloc, "TO", "The last time at which it is"))
+        .arg(required_word(alloc, "TO", "End of the time that is checked, included"))
 }
 
 /// What the words ask for; none where an argument that the command line requires isn't there.

@@ -17,24 +17,24 @@ fn with_time<'a>(
 
 /// The word with the times between which a session is drawn.
 fn with_times<'a>(word: Command<'a>, alloc: Global) -> Result<Command<'a>, AllocError> {
-    let from = "Draw no segment that was seen before TIME";
-    let to = "Draw no segment that was seen after TIME";
+    let from = "Leave out segments that were seen before TIME";
+    let to = "Leave out segments that were seen after TIME";
     let word = with_time(word, alloc, "from", from)?;
     with_time(word, alloc, "to", to)
 }
 
 /// The word with its page of help.
 pub(crate) fn command<'a>(alloc: Global) -> Result<Command<'a>, AllocError> {
-    let draw = "Draw session N as a ladder, in place of the table";
-    let retire = "Say of the keys with this name or KeyID alone whether they may go";
-    let every = "Write a table also each N of the capture's own time";
-    let laps = "Search up to N laps of 4 GiB, 0 to 255, where a MAC is wrong; else 0";
+    let draw = "Draw session N as a ladder instead of the table";
+    let retire = "Only show whether the keys with this name or KeyID may go";
+    let every = "Also write a table every N of the capture's own time";
+    let laps = "Try up to N laps of 4 GiB more, 0 to 255, if a MAC is wrong; default 0";
     let word = Command::new(alloc, "sessions")
         .about(ABOUT)
         .after_help(AFTER)
         .arg(option(alloc, "draw", "N", draw))?;
     let word = with_times(word, alloc)?;
-    with_svg(word, alloc, "Draw it as a picture in SVG")?
+    with_svg(word, alloc, "Draw the ladder as a picture in SVG")?
         .arg(key_file(alloc))?
         .arg(isns_file(alloc))?
         .arg(capture_file(alloc))?

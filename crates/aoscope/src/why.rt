@@ -4,21 +4,22 @@ use clap::{ArgMatches, Command};
 use scope_run::{Asked, PacketAsked};
 use std::alloc::{AllocError, Global};
 
-const ABOUT: &str = "Says of a packet of a capture why it is refused, or what it passes with";
+const ABOUT: &str = "Explains the verdict on one packet of a capture";
 
 const AFTER: &str =
-    "KEYS is a key file of `aotcp`; the capture is read from standard input as far as its packet N, \
-counted from 1. The first line has the packet's time, sockets and fields, the second one what `aotcp check` says of \
-it; the others say what decided that: the row that takes the segment, or what each row of the node lacks to take it; \
-the initial sequence numbers and the number by which it is judged; how its MAC is made, part by part; and where the \
-MAC is wrong each single mistake of an end that makes just this MAC: another row or flag, another form of the key, \
-sockets or initial sequence numbers exchanged, and more.
+    "KEYS is a key file; the capture is read from standard input, or from the file that -r names, as far as packet \
+N, counted from 1. The first line shows the packet's time, sockets and fields, the second the verdict of the \
+check. The other lines show what decided it: the row that takes the segment, or what each row of the node lacks \
+to take it; the initial sequence numbers and the sequence number that were used; and the MAC's input, part by \
+part. If the MAC is wrong, each single mistake of a sender that would give exactly this MAC is named: another \
+row or flag, another form of the key, sockets or initial sequence numbers exchanged, and more.
 
-FILE gives the initial sequence numbers of sessions that began before the capture, as with `aoscope sessions`.
+FILE gives the initial sequence numbers of sessions that began before the capture, as for `aoscope sessions`.
 
-With --keys the traffic key stands there too, which is a secret: who has it can sign segments of this connection.
+With --keys the traffic key is shown too. It is a secret: whoever has it can sign segments of this connection.
 
-Status 0: the packet passes; 1: it doesn't, or isn't there; 3: keys; 4: also FILE; the others as above.
+Exit status: 0, the packet passes; 1, it doesn't, or there is no packet N; 2, also if N is no number from 1; 3, \
+faulty key file; 4, faulty FILE, or a faulty capture before packet N; the others as in `aoscope --help`.
 
     aoscope why KEYS N < CAPTURE
     aoscope why KEYS N -r CAPTURE
@@ -27,7 +28,7 @@ Status 0: the packet passes; 1: it doesn't, or isn't there; 3: keys; 4: also FIL
 
 /// The word with its page of help.
 pub(crate) fn command<'a>(alloc: Global) -> Result<Command<'a>, AllocError> {
-    let shown = "Write the traffic key too, which is a secret";
+    let shown = "Show the traffic key too; it is a secret";
     Command::new(alloc, "why")
         .about(ABOUT)
         .after_help(AFTER)
