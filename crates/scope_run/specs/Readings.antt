@@ -12,7 +12,7 @@ use Rattle.book_scope_run.specs.declared.halt.Origin.TheVariants.{KeyFile, IsnFi
 use Rattle.book_scope_run.specs.Endings.{most_from}
 use Rattle.book_scope_plan.specs.AdminNames.{KeyFile as Sheets}
 use Rattle.scope_plan.specs.KeyFiles.{key_file_of}
-use Rattle.scope_plan.specs.declared.key_file.KeyFile.{KeyFile}
+use Rattle.scope_plan.specs.declared.key_file.KeyFile.{KeyFile as FileRead}
 use Rattle.scope_run.specs.declared.reading.Files.{Files}
 use Rattle.scope_run.specs.Sides.{Unread}
 
@@ -77,6 +77,6 @@ IsnsGive read (Ok isns) = read ≡ Ok isns
 IsnsGive read (Err why) = IsnsFail why read
 
 -- a key file that was read, as the book has it (own)
-abbrev pub sheets_of : Result KeyFile Halt → Result Sheets Halt
+abbrev pub sheets_of : Result FileRead Halt → Result Sheets Halt
 sheets_of (Ok file) = Ok (key_file_of file)
 sheets_of (Err why) = Err why
