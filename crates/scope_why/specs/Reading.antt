@@ -1,5 +1,5 @@
 -- What is read of a capture, and the answer on it (own). Its top is `Reads`.
-use Rattle.std.specs.Prelude.{◌≡◌, ◌⊎◌, ℕ, ◌<◌, Bool, true, false, List, [], ◌∷◌, ◌++◌, length, Some, None, Result, Ok, Err}
+use Rattle.std.specs.Prelude.{◌≡◌, ◌⊎◌, ℕ, ◌<◌, ◌≤◌, Bool, true, false, List, [], ◌∷◌, ◌++◌, length, Some, None, Result, Ok, Err}
 use Rattle.std.specs.List.{All}
 use Rattle.ao_base.specs.Outside.{Side, Gave, Rose, IsAtEnd, told}
 use Rattle.book_base.specs.Hexadecimal.{IsByte}
