@@ -12,7 +12,7 @@ use Rattle.book_scope_run.specs.declared.halt.Origin.TheVariants.{KeyFile, IsnFi
 use Rattle.book_scope_run.specs.Endings.{most_from}
 use Rattle.book_scope_plan.specs.AdminNames.{KeyFile as Sheets}
 use Rattle.scope_plan.specs.KeyFiles.{key_file_of}
-use Rattle.scope_plan.specs.declared.key_file.KeyFile.{KeyFile as FileRead}
+use Rattle.key_file.specs.declared.reading.KeyFile.{KeyFile as FileRead}
 use Rattle.scope_run.specs.declared.reading.Files.{Files}
 use Rattle.scope_run.specs.Sides.{Unread}
 
