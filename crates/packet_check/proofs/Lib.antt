@@ -1,5 +1,0 @@
-pub mod ContentLaws
-pub mod EndLaws
-pub mod PacketLaws
-pub mod PacketWalk
-pub mod TallyLaws
