@@ -14,9 +14,9 @@ use Rattle.book_keys.specs.Rows.{Table}
 use Rattle.book_lines.specs.Said.{Said}
 use Rattle.book_link.specs.declared.event.Event.{Event}
 use Rattle.book_link.specs.Worlds.{Setup, setup_of}
-use Rattle.law_aligned.proofs.Carrying.{aligned_carries}
-use Rattle.law_aligned.specs.Carried.{IsAligned, KeepsTables}
-use Rattle.law_apart.proofs.Streams.{session_by_session}
+use Rattle.law_seen.proofs.Carrying.{aligned_carries}
+use Rattle.law_seen.specs.Carried.{IsAligned, KeepsTables}
+use Rattle.law_seen.proofs.Streams.{session_by_session}
 use Rattle.law_headline.proofs.InputLaws.{events_fit, keyed_fits, keyed_tables}
 use Rattle.law_headline.proofs.LawfulRuns.{front_fits}
 use Rattle.law_link.proofs.Origin.{origin_if, reset_if}

@@ -37,8 +37,8 @@ use Rattle.book_cmd_timed.specs.TimedRuns.{expand, timed_script_of}
 use Rattle.book_pcap.specs.Packets.{most_capture, packets_of}
 use Rattle.cmd_bgp.specs.Tellings.{SpeaksInOrder, TellsMessages}
 use Rattle.law_headline.specs.GetsThrough.{GetsThrough}
-use Rattle.law_aligned.specs.Carried.{Carries, IsAligned, KeepsTables}
-use Rattle.law_apart.specs.Apart.{EachHasOrigin, EachResetIsAnAbort, SessionBySession}
+use Rattle.law_seen.specs.Carried.{Carries, IsAligned, KeepsTables}
+use Rattle.law_seen.specs.Apart.{EachHasOrigin, EachResetIsAnAbort, SessionBySession}
 use Rattle.law_headline.specs.Lawful.{AtEachEvent, AtEachMoment, Lawful}
 use Rattle.law_link.specs.Headline.{few_events}
 use Rattle.law_link.specs.Laws.{TablesFit}

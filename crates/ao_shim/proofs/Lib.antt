@@ -4,3 +4,6 @@ pub mod OutLaws
 pub mod PlanLaws
 pub mod SealLaws
 pub mod TakenLaws
+pub mod RewriteLaws
+pub mod LaidLaws
+pub mod SumLaws

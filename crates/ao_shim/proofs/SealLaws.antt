@@ -20,9 +20,9 @@ use Rattle.book_shim.specs.Relaying.{fitted, relaid, with_area, length_in_header
 use Rattle.book_shim.specs.Leaving.{signs, ao_last, as_sent, with_ao, input_for, code_for}
 use Rattle.law_shim.proofs.Sealing.{is_fitted, fitted_words, no_code_long, ao_area_words}
 use Rattle.law_shim.proofs.Returning.{fitted_found, front_listed}
-use Rattle.shim_relay.specs.Laying.{laid}
-use Rattle.shim_relay.proofs.LaidLaws.{laid_ip_fits, laid_long, relaid_told}
-use Rattle.shim_relay.proofs.SumLaws.{sent_long}
+use Rattle.ao_shim.specs.Laying.{laid}
+use Rattle.ao_shim.proofs.LaidLaws.{laid_ip_fits, laid_long, relaid_told}
+use Rattle.ao_shim.proofs.SumLaws.{sent_long}
 use Rattle.ao_mac.specs.Macs.{IsMacOf}
 use Rattle.ao_shim.specs.Guards.{Written}
 use Rattle.ao_shim.specs.Plans.{ao_after, HasOne}

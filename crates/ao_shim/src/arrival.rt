@@ -11,6 +11,10 @@ ghost use Rattle.tcp_options.specs.Views.{view_ao};
 ghost use Rattle.ao_shim.specs.Guards.{Suits};
 ghost use Rattle.ao_shim.specs.Arrivals.{row_heard};
 
+use crate::kept_arriving::{admitted, is_awaited, may_be_replayed, past_heard};
+use crate::layout::least_headers;
+use crate::numbers::answered_isn;
+use crate::rows::followed;
 use ao_base::Steps;
 use ao_check::{Passing, check_syn, check_under};
 use ao_kdf::KeyCache;
@@ -18,9 +22,6 @@ use book_base::Pair;
 use book_endpoint::Verdict;
 use book_shim::Kept;
 use key_table::Table;
-use shim_kept::{admitted, answered_isn, is_awaited, may_be_replayed, past_heard};
-use shim_relay::least_headers;
-use shim_rows::followed;
 use std::sync::ledger::Ledger;
 use tcp_segment::{Datagram, Flag};
 

@@ -9,15 +9,15 @@ ghost use Rattle.ao_check.specs.Verdicts.{judging};
 ghost use Rattle.ao_shim.specs.Guards.{Suits, Taken, AreLow};
 
 use crate::arrival::{heard, judged, most_mss};
+use crate::layout::relay;
 use crate::leaving::renew;
+use crate::rewrite::coming;
+use crate::rows::is_keyed;
 use ao_base::{Steps, is_same_socket};
 use ao_kdf::KeyCache;
 use book_base::Pair;
 use book_shim::{Kept, Untaken};
 use key_table::Table;
-use shim_area::coming;
-use shim_relay::relay;
-use shim_rows::is_keyed;
 use std::sync::ledger::Ledger;
 use tcp_segment::read_datagram;
 

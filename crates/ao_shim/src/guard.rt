@@ -6,10 +6,10 @@ ghost use Rattle.ao_kdf.specs.Cache.{empty};
 ghost use Rattle.book_shim.specs.Saving.{resumed};
 ghost use Rattle.ao_shim.specs.Guards.{Suits};
 
+use crate::numbers::fresh;
 use ao_kdf::KeyCache;
 use book_base::Pair;
 use book_shim::{Isns, Kept};
-use shim_kept::fresh;
 use std::alloc::{AllocError, Global};
 use std::marker::Model;
 

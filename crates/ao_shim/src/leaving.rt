@@ -5,15 +5,16 @@ ghost use Rattle.book_keys.specs.Rows.{Row};
 ghost use Rattle.book_shim.specs.Leaving.{Sealed, outbound};
 ghost use Rattle.ao_shim.specs.Guards.{Suits, Sent, AreLow, sealing_steps};
 
+use crate::kept_leaving::past_sent;
+use crate::numbers::is_same_connection;
 use crate::plan::planned;
+use crate::rows::is_keyed;
 use crate::seal::seal;
 use ao_base::{Steps, is_same_socket};
 use ao_kdf::KeyCache;
 use book_base::Pair;
 use book_shim::{Kept, Unsent};
 use key_table::Table;
-use shim_kept::{is_same_connection, past_sent};
-use shim_rows::is_keyed;
 use std::sync::ledger::Ledger;
 use tcp_segment::read_datagram;
 

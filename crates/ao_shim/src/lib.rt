@@ -4,15 +4,26 @@
 //! says why nothing does. After `Guard::new` nothing takes memory.
 #![tactic(auto)]
 
+mod area;
 mod arrival;
 mod arriving;
 mod facts;
 mod guard;
 mod inbound;
+mod kept_arriving;
+mod kept_leaving;
+mod layout;
 mod leaving;
+mod numbers;
 mod outbound;
+mod parts;
 mod plan;
+mod rewrite;
+mod rows;
 mod seal;
+mod starts;
+mod sums;
 
 pub use book_shim::{Isns, Kept, Unsent, Untaken};
 pub use guard::Guard;
+pub use rows::{followed, is_keyed};

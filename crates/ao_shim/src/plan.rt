@@ -7,16 +7,18 @@ ghost use Rattle.book_shim.specs.Keeping.{is_keyed};
 ghost use Rattle.book_shim.specs.Leaving.{send_sealed};
 ghost use Rattle.ao_shim.specs.Plans.{IsPlanned, ao_after};
 
+use crate::area::Area;
 use crate::facts::{context_for, ends_in_time, is_signed, number_of};
+use crate::kept_leaving::{entered, kept_for};
+use crate::layout::length_told;
+use crate::numbers::{own_isn, peer_isn};
+use crate::rewrite::fitted;
+use crate::rows::chosen;
 use ao_kdf::Context;
 use book_base::Pair;
 use book_shim::{Kept, Unsent};
 use key_coordination::Sending;
 use key_table::Table;
-use shim_area::{Area, fitted};
-use shim_kept::{entered, kept_for, own_isn, peer_isn};
-use shim_relay::length_told;
-use shim_rows::chosen;
 use tcp_options::{AO_HEAD, AO_KIND};
 use tcp_segment::Datagram;
 

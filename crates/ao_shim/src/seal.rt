@@ -2,7 +2,7 @@
 ghost use Rattle.std.specs.Prelude.{◌≡◌, ◌+◌, ◌-◌, ◌/◌, ◌≤◌, ◌++◌, false, length, drop, Some, slice_get};
 ghost use Rattle.book_segments.specs.Spelling.{AreBytes};
 ghost use Rattle.book_shim.specs.Relaying.{with_area, length_in_header};
-ghost use Rattle.shim_relay.specs.Laying.{laid};
+ghost use Rattle.ao_shim.specs.Laying.{laid};
 ghost use Rattle.book_base.specs.Algorithms.{mac_length_of};
 ghost use Rattle.book_segments.specs.Bytes.{ring};
 ghost use Rattle.book_segments.specs.Segments.{Segment, Read, reading, spell};
@@ -16,6 +16,8 @@ ghost use Rattle.ao_check.specs.Bonds.{keys_after, steps_of};
 ghost use Rattle.ao_shim.specs.Guards.{Written, is_single_use as book_is_single_use};
 ghost use Rattle.ao_shim.specs.Plans.{IsReady, HasOne, HasKey, sealed_by};
 
+use crate::kept_leaving::resets;
+use crate::layout::{lay_out, relay_sent};
 use crate::plan::{Plan, with_ao, zeros};
 use ao_base::Steps;
 use ao_check::mac_under;
@@ -23,8 +25,6 @@ use ao_kdf::KeyCache;
 use ao_mac::MacBytes;
 use book_shim::Kept;
 use key_table::Table;
-use shim_kept::resets;
-use shim_relay::{lay_out, relay_sent};
 use std::sync::ledger::Ledger;
 use tcp_options::AoFound;
 use tcp_segment::{Datagram, Flag, read_datagram};

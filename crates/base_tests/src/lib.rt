@@ -8,8 +8,20 @@ mod of_ao_base;
 #[cfg(test)]
 mod of_ao_base_memory;
 #[cfg(test)]
+mod of_bgp_messages;
+#[cfg(test)]
+mod of_capture_reader;
+#[cfg(test)]
 mod of_line_reader;
+#[cfg(test)]
+mod of_shim_icmp;
 #[cfg(test)]
 mod of_slot_list;
 #[cfg(test)]
 mod of_stream_buffers;
+#[cfg(test)]
+mod of_tcp_options;
+#[cfg(test)]
+mod of_tcp_segment;
+#[cfg(test)]
+mod of_wrap_seq;

@@ -1,3 +1,4 @@
 mod JudgedLaws
 mod KeyLaws
 pub mod LintLaws
+mod HearingLaws

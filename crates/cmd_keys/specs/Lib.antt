@@ -1,2 +1,4 @@
 pub mod Judgements
 pub mod RowTexts
+pub mod CarriesThrough
+pub mod Unmet

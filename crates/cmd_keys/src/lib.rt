@@ -4,9 +4,14 @@
 #![tactic(auto)]
 
 mod connection;
+mod gap;
 mod judged;
+mod judgement;
 mod keys;
 mod lint;
+mod premise;
+mod way;
 
 pub use keys::answer_keys;
 pub use lint::answer_lint;
+pub use premise::aligned_carries_through;

@@ -12,12 +12,13 @@ ghost use Rattle.cmd_keys.specs.Judgements.{judged_from, judgements};
 
 use crate::connection::read_connection;
 use crate::judged::Judged;
+use crate::judgement::lint;
 use ao_base::push_decimal;
 use book_base::{Bytes, End, Pair};
 use book_cmd_keys::Plan;
+use book_keys::LintAnswer;
 use book_lines::TextFault;
 use command_report::{Report, Stop};
-use key_lint::{LintAnswer, lint};
 use key_table::Tables;
 use std::alloc::{AllocError, Global};
 use text_lines::{
@@ -102,7 +103,7 @@ fn lint_lines(alloc: Global, tables: &Tables, plan: Plan, input: &[u8]) -> Resul
 /// The answer of `lint`: for each connection of the input, a line `ADDRESS PORT ADDRESS PORT` whose
 /// first socket is end a, its number and whether the tables of the key file carry it through a
 /// rollover: `aligned`, or `no-peer-row END ROW`, `short-accept END ROW` or `gap END TIME`, as
-/// `key_lint::lint` judges it. A connection that isn't aligned is amiss.
+/// `crate::judgement::lint` judges it. A connection that isn't aligned is amiss.
 ///
 /// `Ok` exactly where each line that says something is a connection between two addresses of one
 /// family that differ. `TooManyLines` exactly where the input has more than 20,000 lines; else `Line`

@@ -5,14 +5,17 @@ ghost use Rattle.book_keys.specs.Plans.{rows_at};
 ghost use Rattle.book_cmd_node.specs.declared.node.NodeScript.{NodeScript as OneScript};
 ghost use Rattle.book_cmd_node.specs.NodeRuns.{node_script_of, node_text};
 ghost use Rattle.law_node.specs.Alone.{Alone};
-ghost use Rattle.node_script.specs.Scripts.{IsScript};
+ghost use Rattle.cmd_node.specs.Scripts.{IsScript};
 ghost use Rattle.book_answer.specs.Answers.{if_read, node_over};
 ghost use Rattle.command_report.specs.Reports.{Reports};
 
-use ao_node::{Node, NodeScript, read_node, run_node};
+use crate::reader::read_node;
+use crate::run::run_node;
 use book_base::Bytes;
+use book_cmd_node::NodeScript;
 use command_report::{Report, Stop};
 use key_table::{Table, Tables};
+use node_ends::Node;
 use std::alloc::{AllocError, Global};
 
 /// How many ends the node of a run holds at most.
@@ -37,7 +40,7 @@ fn run_script(alloc: Global, tables: &Tables, script: &NodeScript) -> Result<Byt
 /// The answer of `node` to a node's file over the tables of a key file: the text of its run, as
 /// `run_node` has it, in which nothing is amiss.
 ///
-/// `Ok` exactly where the input is a node's file; its faults are those of `ao_node::read_node`.
+/// `Ok` exactly where the input is a node's file; its faults are those of `cmd_node::read_node`.
 /// `Memory` only for want of memory.
 #[tactic(auto, using(command_report::proofs::Reporting::fails_stops))]
 pub fn answer(alloc: Global, tables: &Tables, input: &[u8]) -> Result<Report, Stop>

@@ -2,6 +2,15 @@
 //! format.
 #![tactic(auto)]
 
+mod acts;
 mod answers;
+mod events;
+mod head;
+mod line_events;
+mod lines;
+mod name;
+mod reader;
+mod run;
+mod told;
 
 pub use answers::answer;

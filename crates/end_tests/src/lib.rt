@@ -4,6 +4,16 @@
 #![tactic(auto)]
 
 #[cfg(test)]
+mod of_ao_stack;
+#[cfg(test)]
+mod of_link_log;
+#[cfg(test)]
+mod of_link_script;
+#[cfg(test)]
 mod of_node_ends;
 #[cfg(test)]
 mod of_rto_timer;
+#[cfg(test)]
+mod peers;
+#[cfg(test)]
+mod way;

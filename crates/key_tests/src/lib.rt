@@ -5,6 +5,14 @@
 #![tactic(auto)]
 
 #[cfg(test)]
+mod of_ao_check;
+#[cfg(test)]
+mod of_ao_kdf;
+#[cfg(test)]
+mod of_ao_mac;
+#[cfg(test)]
+mod of_hmac_sha1;
+#[cfg(test)]
 mod of_key_coordination;
 #[cfg(test)]
 mod of_key_plan;

@@ -9,3 +9,5 @@ mod Resetting
 mod Standing
 mod Stays
 mod Worked
+pub mod Single
+pub mod Turns

@@ -3,3 +3,5 @@ pub mod Users
 pub mod Links
 pub mod Ends
 pub mod Delivered
+pub mod Single
+pub mod Turns

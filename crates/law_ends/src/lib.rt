@@ -3,9 +3,11 @@
 //! of empty functions.
 #![tactic(auto)]
 
+mod connections;
 mod ends;
 mod mirror;
 
+pub use connections::{each_has_its_turn, each_is_single_at_its_rows};
 pub use ends::{
     acknowledged_was_received, bytes_are_the_partners, bytes_come_in_order, is_met,
     resets_come_of_aborts, streams_end_whole,

@@ -2,3 +2,4 @@ pub mod Datagrams
 pub mod Files
 pub mod Lines
 pub mod Reasons
+pub mod SameLines

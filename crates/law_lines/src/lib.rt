@@ -2,6 +2,8 @@
 //! contract of an empty function.
 #![tactic(auto)]
 
+mod forms;
 mod laws;
 
+pub use forms::lines_are_those_of_the_line_form;
 pub use laws::check_judges_what_lines_writes;

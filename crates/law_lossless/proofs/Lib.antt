@@ -7,3 +7,17 @@ pub mod Staying
 pub mod Delivering
 pub mod Beginning
 pub mod Handshaking
+pub mod Waking
+pub mod Once
+pub mod Calling
+pub mod Greetings
+pub mod Mirroring
+pub mod Going
+pub mod Talking
+pub mod MeetingBeginning
+pub mod Turns
+pub mod Serving
+pub mod Keeping
+pub mod Among
+pub mod Gaining
+pub mod ReachingBeginning

@@ -1,1 +1,4 @@
 pub mod Lossless
+pub mod Once
+pub mod Meeting
+pub mod Reaching

@@ -4,5 +4,9 @@
 #![tactic(auto)]
 
 mod lossless;
+mod meeting;
+mod reaching;
 
-pub use lossless::{a_handshake_leads_in_step, all_is_delivered, is_met, step_is_kept};
+pub use lossless::{a_handshake_leads_in_step, all_is_delivered, in_step_is_met, step_is_kept};
+pub use meeting::{meeting_is_met, nothing_is_sent_twice, stacks_deliver};
+pub use reaching::{catches_up_among, never_stuck_among, reaching_is_met};

@@ -37,7 +37,7 @@ pub fn all_is_delivered()
 
 /// The premises are met: both ends of the link of a storm begin in step, and a byte that is given
 /// waits.
-pub fn is_met()
+pub fn in_step_is_met()
     ensures { (up : IsUp storm_setup (run storm_setup (storm_starts ++ At A (Give (1 ∷ [])) ∷ [])) 0 0)
         × AreInStep storm_setup (run storm_setup (storm_starts ++ At A (Give (1 ∷ [])) ∷ [])) 0 0 up
         × IsWaiting (up.session A).state }

@@ -4,3 +4,13 @@ pub mod Past
 pub mod Relied
 pub mod Stays
 pub mod Told
+pub mod Carrying
+pub mod Near
+pub mod Tables
+pub mod Keeping
+pub mod Streams
+pub mod Choosing
+pub mod Hearing
+pub mod Newer
+pub mod Sending
+pub mod Turning

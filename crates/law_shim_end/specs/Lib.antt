@@ -1,3 +1,13 @@
 pub mod Beside
 pub mod Origins
 pub mod Ready
+pub mod Asking
+pub mod Resetting
+pub mod Restoring
+pub mod Rolling
+pub mod Unsaved
+pub mod Closed
+pub mod Laps
+pub mod Sizes
+pub mod Staying
+pub mod Whole

@@ -8,4 +8,6 @@ mod of_ao_run;
 #[cfg(test)]
 mod of_cmd_bgp;
 #[cfg(test)]
+mod of_cmd_check;
+#[cfg(test)]
 mod of_cmd_timed;

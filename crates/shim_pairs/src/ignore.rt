@@ -4,8 +4,8 @@ ghost use Rattle.book_shim.specs.Quoting.{is_ignored};
 ghost use Rattle.shim_pairs.specs.Holdings.{rows_for};
 
 use crate::pairs::Pairs;
+use ao_shim::is_keyed;
 use book_shim::Notice;
-use shim_rows::is_keyed;
 
 impl Pairs {
     /// Whether what came as ICMP is kept from the own kernel.

@@ -5,10 +5,10 @@ ghost use Rattle.shim_pairs.specs.Holdings.{IsRefused, current_by, restored, sav
 use crate::entry::Entry;
 use crate::pairs::Pairs;
 use crate::put::put;
+use ao_shim::followed;
 use book_base::Pair;
 use book_shim::Isns;
 use key_table::{Table, Tables};
-use shim_rows::followed;
 
 /// What is saved of a connection: its pair of sockets, both initial sequence numbers, the numbers after the
 /// greatest that was sent and heard, and the KeyID of its current row, if it has one.

@@ -17,7 +17,7 @@ use Rattle.book_shim.specs.Relaying.{fitted, length_in_header, with_area}
 use Rattle.book_shim.specs.Leaving.{signs, entered, kept_for, with_ao}
 use Rattle.key_coordination.specs.declared.choice.Sending.{Sending as Answer}
 use Rattle.key_coordination.specs.Sendings.{told}
-use Rattle.shim_relay.proofs.LaidLaws.{relaid_told}
+use Rattle.ao_shim.proofs.LaidLaws.{relaid_told}
 use Rattle.ao_shim.specs.Plans.{ao_after}
 use Rattle.ao_shim.proofs.OutLaws.{signed_is, no_context, no_number, late, no_key, no_room, too_long, within}
 use Rattle.ao_shim.proofs.PlanLaws.{none_of, is_chosen, le_told, gt_told, told_le, mac_twenty}

@@ -1,3 +1,0 @@
-pub mod ActLaws
-pub mod StepLaws
-pub mod RunLaws

@@ -1,4 +1,0 @@
-use Rattle.ao_node.proofs.run.run_node.Given as goal
-
-abbrev pub ghosts-run : goal.ghosts-run
-ghosts-run a = record { name = a.blank.name; parts = a.blank.parts }

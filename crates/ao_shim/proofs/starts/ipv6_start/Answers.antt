@@ -1,0 +1,7 @@
+use Rattle.std.proofs.Common.{refl}
+use Rattle.book_segments.specs.Bytes.{put2}
+use Rattle.ao_shim.proofs.starts.ipv6_start.Goals as goal
+
+pub returns : goal.returns
+unfolding put2
+returns c = rw c.write_u16.ensures refl

@@ -1,2 +1,0 @@
-mod HearingLaws
-mod JudgedLaws

@@ -1,2 +1,0 @@
-pub mod CarriesThrough
-pub mod Unmet

@@ -1,5 +1,0 @@
-use Rattle.law_aligned.proofs.Carrying.{aligned_carries}
-use Rattle.law_aligned.proofs.runs.aligned_carries.Goals as goal
-
-pub returns : goal.returns
-returns c = λ plan setup fits tables aligned. aligned_carries plan setup fits tables aligned

@@ -1,5 +1,0 @@
-use Rattle.law_apart.proofs.Keeping.{none_in_any}
-use Rattle.law_apart.proofs.sessions.none_in_any.Goals as goal
-
-pub returns : goal.returns
-returns c = λ e isn history none. none_in_any e isn history none

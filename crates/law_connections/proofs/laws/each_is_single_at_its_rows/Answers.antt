@@ -1,5 +1,0 @@
-use Rattle.law_connections.proofs.Single.{is_single_at_its_rows}
-use Rattle.law_connections.proofs.laws.each_is_single_at_its_rows.Goals as goal
-
-pub returns : goal.returns
-returns c = is_single_at_its_rows

@@ -1,4 +1,0 @@
-use Rattle.mac_tests.proofs.of_ao_mac.written.Given as goal
-
-abbrev pub ghosts-sealed : goal.ghosts-sealed
-ghosts-sealed a = record { name = a.blank.name; parts = a.blank.parts }

@@ -1,4 +1,0 @@
-pub mod NameLaws
-pub mod EventLoop
-pub mod EventRanges
-pub mod ScriptRanges

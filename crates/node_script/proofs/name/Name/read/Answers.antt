@@ -1,5 +1,0 @@
-use Rattle.node_script.proofs.NameLaws.{named_by}
-use Rattle.node_script.proofs.name.Name.read.Goals as goal
-
-pub returns : goal.returns
-returns c = named_by c.args.word.now c.first_named.result c.first_named.ensures

@@ -1,2 +1,0 @@
-pub mod LaidLaws
-pub mod SumLaws

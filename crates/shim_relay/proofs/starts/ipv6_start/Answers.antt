@@ -1,7 +1,0 @@
-use Rattle.std.proofs.Common.{refl}
-use Rattle.book_segments.specs.Bytes.{put2}
-use Rattle.shim_relay.proofs.starts.ipv6_start.Goals as goal
-
-pub returns : goal.returns
-unfolding put2
-returns c = rw c.write_u16.ensures refl
