@@ -1,6 +1,7 @@
-//! Tests of what every crate speaks of, of lines and of buffers, by public calls. A module tests the crate
-//! whose name it has. They stand apart from it, since a crate that has tests is proved twice. `text_lines` has
-//! none: each line that a command reads or writes goes through it, and so does each folder of `examples/`.
+//! Tests of what every crate speaks of, of lines, of buffers and of what is on the wire, by public calls. A module
+//! tests the crate whose name it has. They stand apart from it, since a crate that has tests is proved twice.
+//! `text_lines` has none: each line that a command reads or writes goes through it, and so does each folder of
+//! `examples/`.
 #![tactic(auto)]
 
 #[cfg(test)]

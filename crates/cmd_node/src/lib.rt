@@ -1,5 +1,7 @@
-//! The command `node`: the whole answer to a node's file over the tables of a key file. Our own
-//! format.
+//! The command `node`: a node's file is read line by line, its events happen at a node with many connections, and
+//! a line is written for each answer. Our own format.
+//!
+//! The node itself stands in `node_ends`.
 #![tactic(auto)]
 
 mod acts;

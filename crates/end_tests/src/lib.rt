@@ -1,6 +1,7 @@
-//! Tests of a node that is full and of a retransmission timer, by public calls that no command makes so. A module
-//! tests the crate whose name it has. Ends of connections and the segments that they write stand in the examples
-//! of `link` and `node`: there they run as the built program does them, and aren't proved a second time.
+//! Tests of ends and what holds them, by public calls that no command makes so: a node that is full, a
+//! retransmission timer, two stacks that talk, a link's log and its files. A module tests the crate whose name it
+//! has. Connections and the segments that they write stand in the examples of `link` and `node`: there they run
+//! as the built program does them, and aren't proved a second time.
 #![tactic(auto)]
 
 #[cfg(test)]

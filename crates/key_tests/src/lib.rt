@@ -1,7 +1,7 @@
-//! Tests of keys: a read that memory is refused to, choices and plans, by public calls that no command makes so.
-//! A module tests the crate whose name it has. Faults of key files, rows, look-ups and judgements stand in the
-//! examples of `keys`, `lint` and `link`: there they run as the built program does them, and aren't proved a
-//! second time.
+//! Tests of keys and MACs, by public calls that no command makes so: hashes in pieces, keys that are kept, sealing,
+//! the check of a segment, choices and plans. A module tests the crate whose name it has. Vectors of the RFCs and
+//! of other programs, and the faults of key files, stand in the examples: there they run as the built program does
+//! them, and aren't proved a second time.
 #![tactic(auto)]
 
 #[cfg(test)]

@@ -1,6 +1,6 @@
-//! What holds of two stacks that talk over any path, whatever it loses, repeats, alters or forges:
-//! their past is the past of a link, so the laws of a link hold of them. Theorems alone, as contracts
-//! of empty functions.
+//! What holds of two stacks that talk over any path, whatever it loses, repeats, alters or forges: their past is
+//! the past of a link, so the laws of a link hold of them; and each connection of a stack answers as if it were
+//! alone, and has its turn. Theorems alone, as contracts of empty functions.
 #![tactic(auto)]
 
 mod connections;

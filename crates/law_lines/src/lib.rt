@@ -1,5 +1,5 @@
-//! What `aotcp check` reads of the lines that `aoscope lines` writes of a capture. A theorem alone, as the
-//! contract of an empty function.
+//! What `aotcp check` reads of the lines that `aoscope lines` writes of a capture, and that they are the lines by
+//! which `check --pcap` judges. Theorems alone, as contracts of empty functions.
 #![tactic(auto)]
 
 mod forms;

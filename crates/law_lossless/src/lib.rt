@@ -1,6 +1,6 @@
-//! What holds of a link that loses nothing from a moment on at which nothing is on the way: both
-//! ends stay in step, and all that was given is delivered, without that anything is sent again.
-//! Theorems alone, as contracts of empty functions.
+//! What holds of a link, and of two stacks, that lose nothing from a moment on: ends in step stay in step and
+//! deliver all that was given, and enough round trips among other turns do so whatever was lost before. Theorems
+//! alone, as contracts of empty functions.
 #![tactic(auto)]
 
 mod lossless;

@@ -1,5 +1,6 @@
-//! What the users of a link's two ends may rely on in every run, said of the events of the link file
-//! and of what the report says of them alone. Theorems alone, as contracts of empty functions.
+//! What the users of a link's two ends may rely on in every run: what the report says of their events, session by
+//! session, over tables that `lint` calls aligned, and when the other end asks for a new key. Theorems alone, as
+//! contracts of empty functions.
 #![tactic(auto)]
 
 mod arrivals;

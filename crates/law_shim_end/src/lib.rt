@@ -1,5 +1,5 @@
-//! What holds of a shim at one side of a connection and an end of our own at the other: laws as clauses of functions
-//! that do nothing.
+//! What holds of shims at the ends of a connection: what went in comes out, keys roll over, saved state goes on,
+//! and an end of our own at the other side takes what is sealed. Laws as clauses of functions that do nothing.
 #![tactic(auto)]
 
 mod answering;

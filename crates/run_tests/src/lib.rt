@@ -1,6 +1,7 @@
-//! Tests of the top call where it is disturbed, and of links with timers and with messages of BGP, by public calls
-//! that lend what they leave: readers and timers. A module tests the crate whose name it has. Whole runs stand in
-//! the examples: there they run as the built program does them, and aren't proved a second time.
+//! Tests of the top call where it is disturbed, of checks whose input or output fails, and of links with timers and
+//! with messages of BGP, by public calls that lend what they leave: readers and timers. A module tests the crate
+//! whose name it has. Whole runs stand in the examples: there they run as the built program does them, and aren't
+//! proved a second time.
 #![tactic(auto)]
 
 #[cfg(test)]
