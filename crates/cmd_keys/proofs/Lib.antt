@@ -1,4 +1,5 @@
 mod JudgedLaws
+mod JudgementLaws
 mod KeyLaws
 pub mod LintLaws
 mod HearingLaws

@@ -1,5 +1,5 @@
 use Rattle.std.proofs.Common.{take}
-use Rattle.cmd_keys.proofs.KeyLintJudgedLaws.{all_kept, gap_told}
+use Rattle.cmd_keys.proofs.JudgementLaws.{all_kept, gap_told}
 use Rattle.cmd_keys.proofs.gap.gap.Goals as goal
 
 pub returns : goal.returns

@@ -3,7 +3,7 @@ use Rattle.book_keys.specs.declared.lint.LintAnswer.{LintAnswer}
 use Rattle.book_keys.specs.declared.lint.LintAnswer.TheVariants as answer
 use Rattle.book_keys.specs.Plans.{rows_at}
 use Rattle.cmd_keys.specs.CarriesThrough.{CarriesThrough}
-use Rattle.cmd_keys.proofs.KeyLintJudgedLaws.{aligned_exactly}
+use Rattle.cmd_keys.proofs.JudgementLaws.{aligned_exactly}
 use Rattle.cmd_keys.proofs.judgement.lint.Goals as goal
 
 pub returns-clause-carries_through : goal.returns-clause-carries_through

@@ -1,5 +1,5 @@
 use Rattle.book_keys.specs.Plans.{rows_at}
-use Rattle.cmd_keys.proofs.KeyLintJudgedLaws.{aligned_exactly}
+use Rattle.cmd_keys.proofs.JudgementLaws.{aligned_exactly}
 use Rattle.cmd_keys.proofs.premise.aligned_carries_through.Goals as goal
 
 pub returns : goal.returns
