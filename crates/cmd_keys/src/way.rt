@@ -116,7 +116,7 @@ impl<'a> Way<'a> {
 
     /// Why the row of this end and number isn't met at the other end. A row that is met is the usual
     /// case, so that is looked for first.
-    #[tactic(auto, using(crate::proofs::JudgedLaws::accepted_too))]
+    #[tactic(auto, using(crate::proofs::JudgementLaws::accepted_too))]
     fn unmet(
         &self,
         hearing: &[bool; ROW_LIMIT],
