@@ -8,7 +8,7 @@ ghost use Rattle.scope_run.specs.Sides.{Given, Sides};
 use crate::asked::Asked;
 use crate::halt::status_at;
 use crate::tell::tell;
-use crate::{draw, echo, keys, lines, plan, sessions, why};
+use crate::{check, draw, echo, keys, lines, plan, sessions, why};
 use ao_base::{Sink, Source};
 use book_scope_run::Halt;
 use std::alloc::Global;
@@ -29,6 +29,7 @@ fn act<K: Source, J: Source, I: Source, O: Sink>(
 {
     match asked {
         Asked::Lines => lines::act(alloc, input, out),
+        Asked::Check(asked) => check::act(alloc, *asked, keys, isns, input, out),
         Asked::Sessions(asked) => sessions::act(alloc, asked, keys, isns, input, out),
         Asked::Why(asked) => why::act(alloc, asked, keys, isns, input, out),
         Asked::Keys => keys::act(alloc, keys, out),

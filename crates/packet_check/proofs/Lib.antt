@@ -1,0 +1,5 @@
+pub mod ContentLaws
+pub mod EndLaws
+pub mod PacketLaws
+pub mod PacketWalk
+pub mod TallyLaws
