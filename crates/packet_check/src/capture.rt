@@ -22,7 +22,8 @@ fn write_total<O: Sink>(
     fault: Option<CaptureFault>,
     out: &mut O,
 ) -> Result<bool, WalkHalt>
-    ensures { (classes : List PacketClass) → Tallies tally classes → EndsTotal classes fault (O.side out.old) (O.side out.new) result }
+    ensures { (classes : List PacketClass) → Tallies tally classes
+        → EndsTotal classes fault (O.side out.old) (O.side out.new) result }
 {
     let mut line = Vec::new(alloc);
     match tally.push_total(&mut line) {
@@ -58,7 +59,8 @@ pub fn check_capture<I: Source, O: Sink>(
     input: &mut I,
     out: &mut O,
 ) -> Result<bool, WalkHalt>
-    ensures { (given : List ℕ) × Checks all tables isns.now given (I.side input.old) (I.side input.new) (O.side out.old) (O.side out.new) result }
+    ensures { (given : List ℕ) × Checks all tables isns.now given (I.side input.old) (I.side input.new)
+        (O.side out.old) (O.side out.new) result }
 {
     let mut reader = match CaptureReader::new(alloc) {
         Ok(reader) => reader,

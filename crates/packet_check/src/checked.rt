@@ -34,8 +34,9 @@ fn check_segment<L: Ledger>(
     datagram: &Datagram<'_>,
     line: &mut Vec<u8>,
 ) -> Result<PacketClass, AllocError>
-    ensures checks { (held : List Connection) (s : Stored) → reading s.bytes ≡ Read datagram.now → s.time ≡ time → StandsFor checker.old.entries held
-        → IfOk result (λ class. ChecksAs checker.old.tables held (Ok s) checker.new.entries line.old.items line.new.items class) }
+    ensures checks { (held : List Connection) (s : Stored) → reading s.bytes ≡ Read datagram.now → s.time ≡ time
+        → StandsFor checker.old.entries held → IfOk result (λ class. ChecksAs checker.old.tables held (Ok s)
+        checker.new.entries line.old.items line.new.items class) }
     ensures tables { checker.new.tables ≡ checker.old.tables }
 {
     let said = checker.hear(alloc, time, datagram, steps)?;
@@ -69,7 +70,8 @@ fn say_cut(
     fault: DatagramFault,
     line: &mut Vec<u8>,
 ) -> Result<PacketClass, AllocError>
-    ensures { (s : Stored) → IfOk result (λ class. SaysContent tables.now (checked_fault s fault (Some datagram.now)) line.old.items line.new.items class) }
+    ensures { (s : Stored) → IfOk result (λ class. SaysContent tables.now
+        (checked_fault s fault (Some datagram.now)) line.old.items line.new.items class) }
 {
     push_columns(line, datagram)?;
     push_said(alloc, line, &CheckLine::Bad(fault))?;
@@ -84,8 +86,8 @@ fn check_fault(
     fault: DatagramFault,
     line: &mut Vec<u8>,
 ) -> Result<PacketClass, AllocError>
-    ensures { (s : Stored) → s.bytes ≡ bytes.now
-        → IfOk result (λ class. SaysContent tables.now (checked_fault s fault (cut_segment s.bytes)) line.old.items line.new.items class) }
+    ensures { (s : Stored) → s.bytes ≡ bytes.now → IfOk result (λ class. SaysContent tables.now
+        (checked_fault s fault (cut_segment s.bytes)) line.old.items line.new.items class) }
 {
     let found = cut_whole(alloc, bytes)?;
     match found {
@@ -107,7 +109,8 @@ fn check_judged<L: Ledger>(
     line: &mut Vec<u8>,
 ) -> Result<PacketClass, AllocError>
     ensures checks { (held : List Connection) (number : ℕ) → StandsFor checker.old.entries held
-        → IfOk result (λ class. ChecksAs checker.old.tables held (stored_as number (Ok stored.entry)) checker.new.entries line.old.items line.new.items class) }
+        → IfOk result (λ class. ChecksAs checker.old.tables held (stored_as number (Ok stored.entry))
+        checker.new.entries line.old.items line.new.items class) }
     ensures tables { checker.new.tables ≡ checker.old.tables }
 {
     match read_datagram(stored.bytes) {
@@ -125,7 +128,8 @@ fn check_stored<L: Ledger>(
     line: &mut Vec<u8>,
 ) -> Result<PacketClass, AllocError>
     ensures checks { (held : List Connection) (number : ℕ) → StandsFor checker.old.entries held
-        → IfOk result (λ class. ChecksAs checker.old.tables held (judged_of (stored_as number (Ok stored.entry))) checker.new.entries line.old.items line.new.items class) }
+        → IfOk result (λ class. ChecksAs checker.old.tables held (judged_of (stored_as number (Ok stored.entry)))
+        checker.new.entries line.old.items line.new.items class) }
     ensures tables { checker.new.tables ≡ checker.old.tables }
 {
     let found = mended(alloc, stored.bytes)?;
@@ -143,7 +147,8 @@ fn check_stored<L: Ledger>(
 
 // Says that nothing is judged of a packet, for this reason.
 fn say_other(why: PassedOver, line: &mut Vec<u8>) -> Result<PacketClass, AllocError>
-    ensures { (tables : List Table) → IfOk result (λ class. SaysContent tables (OfNothing why) line.old.items line.new.items class) }
+    ensures { (tables : List Table)
+        → IfOk result (λ class. SaysContent tables (OfNothing why) line.old.items line.new.items class) }
 {
     push_dashes(line)?;
     push_other(line, why)?;
@@ -159,7 +164,8 @@ fn check_captured<L: Ledger>(
     line: &mut Vec<u8>,
 ) -> Result<PacketClass, AllocError>
     ensures checks { (held : List Connection) (number : ℕ) → StandsFor checker.old.entries held
-        → IfOk result (λ class. ChecksAs checker.old.tables held (judged_of (stored_as number captured.entry)) checker.new.entries line.old.items line.new.items class) }
+        → IfOk result (λ class. ChecksAs checker.old.tables held (judged_of (stored_as number captured.entry))
+        checker.new.entries line.old.items line.new.items class) }
     ensures tables { checker.new.tables ≡ checker.old.tables }
 {
     match captured {
@@ -179,7 +185,8 @@ pub(crate) fn check_shown<L: Ledger>(
     line: &mut Vec<u8>,
 ) -> Result<PacketClass, AllocError>
     requires { IsSome reader.now.packet }
-    ensures checks { (p : CapturePacket) (held : List Connection) → reader.now.packet ≡ Some p → StandsFor checker.old.entries held
+    ensures checks { (p : CapturePacket) (held : List Connection) → reader.now.packet ≡ Some p
+        → StandsFor checker.old.entries held
         → IfOk result (λ class. ChecksPacket checker.old.tables held p checker.new.entries line.new.items class) }
     ensures tables { checker.new.tables ≡ checker.old.tables }
 {

@@ -48,7 +48,8 @@ fn push_id(out: &mut Vec<u8>, id: Option<u8>) -> Result<(), AllocError>
 
 // Puts the address and the port behind `out`, with a space in front of each.
 fn push_end(out: &mut Vec<u8>, socket: &Socket) -> Result<(), AllocError>
-    ensures { OnOk result (out.new.items ≡ out.old.items ++ spaced (usual_address_text socket.now.address ∷ decimal socket.now.port ∷ [])) }
+    ensures { OnOk result (out.new.items ≡ out.old.items
+        ++ spaced (usual_address_text socket.now.address ∷ decimal socket.now.port ∷ [])) }
 {
     out.push(b' ')?;
     push_address(out, &socket.address)?;

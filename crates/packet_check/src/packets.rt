@@ -44,7 +44,8 @@ fn check_counted<L: Ledger>(
     requires parts { blank.parts ≡ L.parts }
     requires part { 0 < blank.parts }
     requires shown { IsSome reader.now.packet }
-    ensures checks { (p : CapturePacket) (held : List Connection) → reader.now.packet ≡ Some p → StandsFor checker.old.entries held
+    ensures checks { (p : CapturePacket) (held : List Connection) → reader.now.packet ≡ Some p
+        → StandsFor checker.old.entries held
         → IfOk result (λ class. ChecksPacket checker.old.tables held p checker.new.entries line.new.items class) }
     ensures tables { checker.new.tables ≡ checker.old.tables }
 {
@@ -87,9 +88,10 @@ impl PacketChecker {
     // Checks the packet that the reader shows, counts it, and keeps its line if it is listed.
     fn check(&mut self, reader: &CaptureReader) -> Result<(), AllocError>
         requires { IsSome reader.now.packet }
-        ensures hears { (p : CapturePacket) (held : List Connection) (classes : List PacketClass) → reader.now.packet ≡ Some p
-            → StandsFor self.old.checker.entries held → Tallies self.old.tally classes
-            → OnOk result (HearsPacket self.old.checker.tables self.old.all held p classes self.new.checker.entries self.new.tally self.new.line.items) }
+        ensures hears { (p : CapturePacket) (held : List Connection) (classes : List PacketClass)
+            → reader.now.packet ≡ Some p → StandsFor self.old.checker.entries held → Tallies self.old.tally classes
+            → OnOk result (HearsPacket self.old.checker.tables self.old.all held p classes
+            self.new.checker.entries self.new.tally self.new.line.items) }
         ensures tables { self.new.checker.tables ≡ self.old.checker.tables }
         ensures all { self.new.all ≡ self.old.all }
     {
@@ -113,7 +115,8 @@ impl Hearer for PacketChecker {
 
     ghost told = { λ q. lines_from q.all q.tables q.held };
 
-    ghost stands = { λ q checker packets. StandsAfter q checker.checker.tables checker.all checker.checker.entries checker.tally packets };
+    ghost stands = { λ q checker packets.
+        StandsAfter q checker.checker.tables checker.all checker.checker.entries checker.tally packets };
 
     ghost stops = { λ q checker packets last. ⊥ };
 

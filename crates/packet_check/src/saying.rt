@@ -19,7 +19,8 @@ pub(crate) fn push_said(
     out: &mut Vec<u8>,
     said: &CheckLine,
 ) -> Result<(), AllocError>
-    ensures { (s : Saying) → Says said.now s → OnOk result (out.new.items ≡ out.old.items ++ (spaced (saying_texts s) ++ 10 ∷ [])) }
+    ensures { (s : Saying) → Says said.now s
+        → OnOk result (out.new.items ≡ out.old.items ++ (spaced (saying_texts s) ++ 10 ∷ [])) }
 {
     let mut line = Vec::new(alloc);
     push_check_line(&mut line, 0, said)?;
@@ -43,7 +44,8 @@ fn push_passed(out: &mut Vec<u8>, why: PassedOver) -> Result<(), AllocError>
 
 /// Puts that a packet is passed over, and why, behind `out`. Where memory runs out a part of it may stand there.
 pub(crate) fn push_other(out: &mut Vec<u8>, why: PassedOver) -> Result<(), AllocError>
-    ensures { OnOk result (out.new.items ≡ out.old.items ++ (spaced (codes "other" ∷ passed_text why ∷ []) ++ 10 ∷ [])) }
+    ensures { OnOk result (out.new.items ≡ out.old.items
+        ++ (spaced (codes "other" ∷ passed_text why ∷ []) ++ 10 ∷ [])) }
 {
     push_text(out, b"other")?;
     out.push(b' ')?;

@@ -85,7 +85,8 @@ impl Tally {
 
     /// The tally with one more packet, which counts as this. An error where 2^64 - 1 packets count as one thing.
     pub(crate) fn with(self, class: PacketClass) -> Result<Tally, AllocError>
-        ensures { (classes : List PacketClass) → Tallies self classes → IfOk result (λ t. Tallies t (classes ++ class ∷ [])) }
+        ensures { (classes : List PacketClass) → Tallies self classes
+            → IfOk result (λ t. Tallies t (classes ++ class ∷ [])) }
     {
         let passing = one_more(self.passing, is_passing(class))?;
         let refused = one_more(self.refused, is_refused(class))?;
@@ -112,7 +113,8 @@ impl Tally {
     /// Puts the last line behind `out`. An error for want of memory, or where there are more than 2^64 - 1
     /// packets; then a part of it may stand there.
     pub(crate) fn push_total(self, out: &mut Vec<u8>) -> Result<(), AllocError>
-        ensures { (classes : List PacketClass) → Tallies self classes → OnOk result (out.new.items ≡ out.old.items ++ total_line classes) }
+        ensures { (classes : List PacketClass) → Tallies self classes
+            → OnOk result (out.new.items ≡ out.old.items ++ total_line classes) }
     {
         let packets = self.packets()?;
         out.extend_from_slice(b"packets ")?;

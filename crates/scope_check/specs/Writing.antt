@@ -31,8 +31,10 @@ abbrev pub EndsJudged : (all : Bool) → List Table → List GivenIsns → List 
     (source_before source_now out_before out_now : Side) → Result Bool JudgingHalt → Type 0
 EndsJudged all tables isns given source_before source_now out_before out_now (Ok amiss) =
     Ends all tables isns given source_before source_now out_before out_now (Ok amiss)
-EndsJudged all tables isns given source_before source_now out_before out_now (Err (halt.Broken fault)) =
-    Ends all tables isns given source_before source_now out_before out_now (Err (walk_halt.Broken fault))
+EndsJudged all tables isns given source_before source_now out_before out_now
+    (Err (halt.Broken fault)) =
+    Ends all tables isns given source_before source_now out_before out_now
+    (Err (walk_halt.Broken fault))
 EndsJudged all tables isns given source_before source_now out_before out_now (Err halt.TooLong) =
     Ends all tables isns given source_before source_now out_before out_now (Err walk_halt.TooLong)
 EndsJudged all tables isns given source_before source_now out_before out_now (Err halt.Read) =
@@ -58,8 +60,9 @@ EndsWith all tables (Err why) given a c out_before out_now (Err halt.Memory) =
 EndsWith all tables (Err why) given a c out_before out_now other = ⊥
 
 -- how each end comes: a key file that is refused ends all before the capture is read (own)
-abbrev pub EndsBy : (all : Bool) → Result (List Table) TableFault → Result (List GivenIsns) TextFault →
-    List ℕ → (source_before source_now out_before out_now : Side) → Result Bool JudgingHalt → Type 0
+abbrev pub EndsBy : (all : Bool) → Result (List Table) TableFault →
+    Result (List GivenIsns) TextFault → List ℕ →
+    (source_before source_now out_before out_now : Side) → Result Bool JudgingHalt → Type 0
 EndsBy all (Ok tables) isns given source_before source_now out_before out_now result =
     EndsWith all tables isns given source_before source_now out_before out_now result
 EndsBy all (Err why) isns given a c out_before out_now (Err (halt.Keys fault)) =
@@ -68,8 +71,8 @@ EndsBy all (Err why) isns given a c out_before out_now (Err halt.Memory) =
     Nothing given out_before out_now
 EndsBy all (Err why) isns given a c out_before out_now other = ⊥
 
--- what `check` says of each packet of a capture is written, of which the source gave these bytes, by
--- the key file of this text and the given lines of that one (own)
+-- what `check` says of each packet of a capture is written, of which the source gave these bytes,
+-- by the key file of this text and the given lines of that one (own)
 pub record Writes (all : Bool) (keys isns given : List ℕ)
     (source_before source_now out_before out_now : Side) (result : Result Bool JudgingHalt)
     : Type 0 where

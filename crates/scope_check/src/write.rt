@@ -49,7 +49,8 @@ pub fn write_checked<I: Source, O: Sink>(
     input: &mut I,
     out: &mut O,
 ) -> Result<bool, JudgingHalt>
-    ensures { (given : List ℕ) × Writes all keys.now isns.now given (I.side input.old) (I.side input.new) (O.side out.old) (O.side out.new) result }
+    ensures { (given : List ℕ) × Writes all keys.now isns.now given (I.side input.old) (I.side input.new)
+        (O.side out.old) (O.side out.new) result }
 {
     let tables = match read_tables(alloc, keys) {
         Ok(tables) => tables,
