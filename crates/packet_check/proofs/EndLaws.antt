@@ -12,7 +12,6 @@ use Rattle.book_cmd_check.specs.declared.given.GivenIsns.{GivenIsns}
 use Rattle.book_cmd_check.specs.Handshakes.{given_after}
 use Rattle.book_scope_check.specs.CheckedLines.{check_lines, check_text, is_amiss, total_line}
 use Rattle.book_scope_check.specs.CheckedPackets.{checked_packets, classes_of}
-use Rattle.capture_check.specs.Checkers.{Checking, StandsFor}
 use Rattle.capture_stream.specs.Reads.{Reading, new_reading}
 use Rattle.capture_walk.specs.declared.walking.WalkEnd.{WalkEnd}
 use Rattle.capture_walk.specs.declared.walking.WalkEnd.TheVariants as end
@@ -21,9 +20,7 @@ use Rattle.capture_walk.specs.declared.walking.WalkHalt.TheVariants as halt
 use Rattle.capture_walk.specs.Walks as walks
 use Rattle.capture_walk.proofs.Showing.{read_now, shown_none}
 use Rattle.capture_walk.proofs.Taken.{all_none}
-use Rattle.packet_check.specs.declared.tally.Tally.{Tally}
-use Rattle.packet_check.specs.Tallies.{Tallies}
-use Rattle.packet_check.specs.Reading.{BreaksText, CheckAsked, Checks, EndsTotal, IsWhole, StandsAfter, lines_from, ForPacket, ForTotal, AtPacket, AtTotal}
+use Rattle.packet_check.specs.Reading.{BreaksText, Checks, EndsTotal, IsWhole, lines_from, ForPacket, ForTotal, AtPacket, AtTotal}
 
 take_past : (xs ys : List ℕ) (n : ℕ) → take (length xs + n) (xs ++ ys) ≡ xs ++ take n ys
 take_past [] ys n = let same : 0 + n ≡ n = omega arith in rw same refl
@@ -134,7 +131,3 @@ module _ (all : Bool) (tables : List Table) (isns : List GivenIsns) where
       bytes = w.bytes;
       ends = ForPacket (record { read = w.ends.read; later = w.ends.later; one = w.ends.one; has_read = w.ends.has_read; near = w.ends.near; wrote = w.ends.wrote });
     }
-
--- no packet was heard
-pub stands_first : (q : CheckAsked) (checking behind : Checking) (all : Bool) (tally : Tally) → checking ≡ behind → behind.tables ≡ q.tables → all ≡ q.all → StandsFor behind.entries q.held → Tallies tally [] → StandsAfter q checking.tables all checking.entries tally []
-stands_first q checking behind all tally is tables_are all_is stands tallies = rw is (record { tables_are = tables_are; all_is = all_is; stands = stands; tallies = tallies })

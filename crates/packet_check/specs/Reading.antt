@@ -43,6 +43,11 @@ pub record CheckAsked : Type 0 where
   pub tables : List Table
   pub held : List Connection
 
+-- how it is to be checked after given handshakes
+abbrev pub asked_after : (all : Bool) → List Table → List GivenIsns → CheckAsked
+asked_after all tables isns =
+    record { all = all; tables = tables; held = given_after [] isns }
+
 -- the connections that are held after packets
 abbrev pub held_from : List Table → (held : List Connection) → List CapturePacket →
     List Connection

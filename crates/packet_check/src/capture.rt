@@ -9,7 +9,6 @@ use crate::packets::PacketChecker;
 use crate::tally::Tally;
 use ao_base::{Failed, Sink, Source, write_all};
 use book_sessions::GivenIsns;
-use capture_check::Checker;
 use capture_stream::{CaptureFault, CaptureReader};
 use capture_walk::{WalkHalt, walk};
 use key_table::Tables;
@@ -66,11 +65,10 @@ pub fn check_capture<I: Source, O: Sink>(
         Ok(reader) => reader,
         Err(_) => return Err(WalkHalt::Memory),
     };
-    let checker = match Checker::behind(alloc, tables, isns) {
-        Ok(checker) => checker,
+    let mut packets = match PacketChecker::behind(alloc, all, tables, isns) {
+        Ok(packets) => packets,
         Err(_) => return Err(WalkHalt::Memory),
     };
-    let mut packets = PacketChecker::new(alloc, all, checker);
     match walk(&mut reader, &mut packets, input, out) {
         Ok(_) => write_total(alloc, packets.tally, None, out),
         Err(WalkHalt::Broken(fault)) => write_total(alloc, packets.tally, Some(fault), out),

@@ -6,7 +6,7 @@ ghost use Rattle.book_scope_check.specs.declared.class.PacketClass.{PacketClass}
 ghost use Rattle.book_scope_check.specs.CheckedLines.{is_foreign_class};
 ghost use Rattle.capture_check.specs.Checkers.{StandsFor};
 ghost use Rattle.packet_check.specs.Checking.{ChecksPacket};
-ghost use Rattle.packet_check.specs.Reading.{HearsPacket};
+ghost use Rattle.packet_check.specs.Reading.{HearsPacket, StandsAfter, asked_after};
 ghost use Rattle.packet_check.specs.Tallies.{Tallies};
 
 use crate::checked::check_shown;
@@ -14,9 +14,11 @@ use crate::class::is_foreign;
 use crate::tally::Tally;
 use ao_base::{Sink, Steps};
 use book_scope_check::PacketClass;
+use book_sessions::GivenIsns;
 use capture_check::Checker;
 use capture_stream::CaptureReader;
 use capture_walk::{HearHalt, Heard, Hearer, tell};
+use key_table::Tables;
 use std::alloc::{AllocError, Global};
 use std::marker::Brand;
 use std::sync::ledger::{Blank, Ledger};
@@ -70,19 +72,24 @@ fn keep_listed(line: &mut Vec<u8>, listed: bool)
 }
 
 impl PacketChecker {
-    /// One that has heard no packet.
-    pub(crate) fn new(alloc: Global, all: bool, checker: Checker) -> PacketChecker
-        ensures checker { result.checker ≡ checker }
-        ensures all { result.all ≡ all }
-        ensures tally { Tallies result.tally [] }
+    /// One that has heard no packet, after handshakes with the given initial sequence numbers.
+    pub(crate) fn behind(
+        alloc: Global,
+        all: bool,
+        tables: Tables,
+        isns: &[GivenIsns],
+    ) -> Result<PacketChecker, AllocError>
+        ensures { IfOk result (λ p. StandsAfter (asked_after all tables isns.now) p.checker.tables p.all
+            p.checker.entries p.tally []) }
     {
-        PacketChecker {
+        let checker = Checker::behind(alloc, tables, isns)?;
+        Ok(PacketChecker {
             checker,
             tally: Tally::new(),
             all,
             line: Vec::new(alloc),
             alloc,
-        }
+        })
     }
 
     // Checks the packet that the reader shows, counts it, and keeps its line if it is listed.
@@ -109,7 +116,7 @@ impl PacketChecker {
 }
 
 impl Hearer for PacketChecker {
-    ghost use Rattle.packet_check.specs.Reading.{CheckAsked, StandsAfter, lines_from};
+    ghost use Rattle.packet_check.specs.Reading.{CheckAsked, lines_from};
 
     ghost Asked = { CheckAsked };
 
