@@ -15,7 +15,7 @@ use Rattle.book_sessions.specs.OutcomeTexts.{passed_text}
 use Rattle.book_sessions.specs.Sessions.{captured_of_packet, judged_of, stored_of_packet}
 use Rattle.book_scope_check.specs.declared.class.PacketClass.{PacketClass}
 use Rattle.book_scope_check.specs.CheckedLines.{content_texts, dash_texts, seen_time_text, segment_texts}
-use Rattle.book_scope_check.specs.CheckedPackets.{OfNothing, checked_content, checked_fault, class_by, class_without, is_foreign_segment}
+use Rattle.book_scope_check.specs.CheckedPackets.{OfNothing, OfSegment, checked_content, checked_fault, checked_reading, class_by, class_without, is_foreign_segment}
 use Rattle.capture_check.specs.declared.answer.CheckLine.{CheckLine}
 use Rattle.capture_check.specs.declared.answer.CheckLine.TheVariants as line
 use Rattle.capture_check.specs.declared.flows.Flows.{Flows}
@@ -23,7 +23,8 @@ use Rattle.capture_check.specs.Answers.{Says}
 use Rattle.capture_check.specs.Checkers.{Hears, StandsFor}
 use Rattle.packet_check.specs.Checking.{ChecksAs, ChecksPacket, SaysContent}
 
-spaced_append : (xs ys : List (List ℕ)) → spaced (xs ++ ys) ≡ spaced xs ++ spaced ys
+-- texts with spaces in front of them, one after another
+pub spaced_append : (xs ys : List (List ℕ)) → spaced (xs ++ ys) ≡ spaced xs ++ spaced ys
 spaced_append [] ys = refl
 spaced_append (x ∷ xs) ys = ap (λ (t : List ℕ). 32 ∷ x ++ t) (spaced_append xs ys) ∙ sym (append_assoc (32 ∷ x) (spaced xs) (spaced ys))
 
@@ -34,21 +35,29 @@ then_words before mid now front words first more =
     ∙ (append_assoc before (spaced front) (spaced words ++ 10 ∷ [])
     ∙ ap (λ (t : List ℕ). before ++ t) (sym (append_assoc (spaced front) (spaced words) (10 ∷ [])) ∙ ap (λ (t : List ℕ). t ++ 10 ∷ []) (sym (spaced_append front words)))))
 
+-- stored bytes that are read so were checked
+checked_read : (tables : List Table) (held : List Connection) (s : Stored) (r : Reading) (entries : List (Pair × Flows)) (before now : List ℕ) (class : PacketClass) → reading s.bytes ≡ r
+    → StandsFor entries (hear_read tables held s.time r).connections → SaysContent tables (checked_reading s r (hear_read tables held s.time r).saying) before now class → ChecksAs tables held (Ok s) entries before now class
+unfolding hear
+checked_read tables held s r entries before now class is stands says = record {
+  stands = subst (λ (r : Reading). StandsFor entries (hear_read tables held s.time r).connections) (sym is) stands;
+  says = subst (λ (r : Reading). SaysContent tables (checked_reading s r (hear_read tables held s.time r).saying) before now class) (sym is) says;
+}
+
 -- a segment was checked
 pub segment_checked : (tables : List Table) (held : List Connection) (s : Stored) (d : Segment) (time : ℕ) (entries : List (Pair × Flows)) (answer : CheckLine) (before mid now : List ℕ) (foreign passes : Bool) (class : PacketClass)
     → reading s.bytes ≡ Read d → s.time ≡ time → Hears entries answer (hear_read tables held time (Read d)) → mid ≡ before ++ spaced (segment_texts d [])
     → ((w : Saying) → Says answer w → now ≡ mid ++ (spaced (saying_texts w) ++ 10 ∷ [])) → foreign ≡ is_foreign_segment tables d → ((w : Saying) → Says answer w → passes ≡ is_pass w)
     → class ≡ class_by foreign passes → ChecksAs tables held (Ok s) entries before now class
-unfolding hear
 segment_checked tables held s d time entries answer before mid now foreign passes class read time_is hears front words foreign_is passing class_is =
     let w = (hear_read tables held time (Read d)).saying in
-    record {
-      stands = rw (read, time_is) hears.stands;
-      says = record {
-        text = rw (read, time_is) (then_words before mid now (segment_texts d []) (saying_texts w) front (words w hears.says));
-        class_is = rw (read, time_is) (class_is ∙ (ap (λ (f : Bool). class_by f passes) foreign_is ∙ ap (class_by (is_foreign_segment tables d)) (passing w hears.says)));
-      };
-    }
+    let says : SaysContent tables (OfSegment d w) before now class = record {
+      text = then_words before mid now (segment_texts d []) (saying_texts w) front (words w hears.says);
+      class_is = class_is ∙ (ap (λ (f : Bool). class_by f passes) foreign_is ∙ ap (class_by (is_foreign_segment tables d)) (passing w hears.says));
+    } in
+    checked_read tables held s (Read d) entries before now class read
+    (subst (λ (t : ℕ). StandsFor entries (hear_read tables held t (Read d)).connections) (sym time_is) hears.stands)
+    (subst (λ (t : ℕ). SaysContent tables (OfSegment d (hear_read tables held t (Read d)).saying) before now class) (sym time_is) says)
 
 -- bytes are said to be no segment
 pub bad_said : (tables : List Table) (s : Stored) (fault told : DatagramFault) (bytes before mid now : List ℕ) (class : PacketClass) → s.bytes ≡ bytes → told ≡ told_fault bytes fault → mid ≡ before ++ spaced (dash_texts [])
@@ -75,8 +84,7 @@ other_said tables why before mid now class front words class_is =
 -- bytes with a fault were checked
 pub fault_checked : (tables : List Table) (held : List Connection) (s : Stored) (fault : DatagramFault) (entries : List (Pair × Flows)) (before now : List ℕ) (class : PacketClass)
     → reading s.bytes ≡ Bad fault → StandsFor entries held → SaysContent tables (checked_fault s fault (cut_segment s.bytes)) before now class → ChecksAs tables held (Ok s) entries before now class
-unfolding hear
-fault_checked tables held s fault entries before now class bad stands says = record { stands = rw bad stands; says = rw bad says }
+fault_checked tables held s fault entries before now class bad stands says = checked_read tables held s (Bad fault) entries before now class bad stands says
 
 pub fault_found : {E : Type 0} (r : Result PacketClass E) (tables : List Table) (held : List Connection) (s : Stored) (fault : DatagramFault) (entries : List (Pair × Flows)) (before now : List ℕ)
     → reading s.bytes ≡ Bad fault → StandsFor entries held → IfOk r (λ class. SaysContent tables (checked_fault s fault (cut_segment s.bytes)) before now class) → IfOk r (λ class. ChecksAs tables held (Ok s) entries before now class)

@@ -61,9 +61,9 @@ packet_heard q before p tables tables_now all all_now entries entries_now tally 
       tallies = rw (classes_more q.tables q.held before p) one.tallies;
     }) tells
 
-listed_as : (listed : Bool) (class foreign : PacketClass) (all : Bool) (line text : List ℕ) → foreign ≡ class → listed ≡ (all || not (is_foreign_class class)) → line ≡ text
-    → (if listed then line else []) ≡ (if all || not (is_foreign_class foreign) then text else [])
-listed_as listed class foreign all line text same listed_is line_is = rw (same, sym listed_is, line_is) refl
+listed_as : (listed : Bool) (class own : PacketClass) (all : Bool) (line text : List ℕ) → own ≡ class → listed ≡ (all || not (is_foreign_class class)) → line ≡ text
+    → (if listed then line else []) ≡ (if all || not (is_foreign_class own) then text else [])
+listed_as listed class own all line text same listed_is line_is = rw (same, sym listed_is, line_is) refl
 
 -- a packet was checked and counted, and its line kept if it is listed
 pub packet_kept : (tables : List Table) (all : Bool) (held : List Connection) (p : CapturePacket) (classes : List PacketClass) (entries : List (Pair × Flows)) (tally : Tally) (line kept : List ℕ) (class : PacketClass) (listed : Bool)

@@ -1,5 +1,5 @@
 //! The end of a packet's line: what `check` says of its datagram, or why it has none.
-ghost use Rattle.std.specs.Prelude.{◌≡◌, ◌++◌, ◌∷◌, [], OnOk, codes};
+ghost use Rattle.std.specs.Prelude.{◌≡◌, ◌++◌, ◌∷◌, [], OnOk, codes, drop};
 ghost use Rattle.book_lines.specs.Texts.{spaced};
 ghost use Rattle.book_cmd_check.specs.Captures.{Saying, saying_texts};
 ghost use Rattle.book_sessions.specs.OutcomeTexts.{passed_text};
@@ -11,6 +11,16 @@ use scope_lines::push_reason;
 use segment_words::push_fault_text;
 use std::alloc::{AllocError, Global};
 use text_lines::{push_newline, push_text};
+
+// The bytes behind the first one.
+fn behind_first(bytes: &[u8]) -> &[u8]
+    ensures { result.now ≡ drop 1 bytes.now }
+{
+    match bytes {
+        [_, rest @ ..] => rest,
+        [] => bytes,
+    }
+}
 
 /// Puts the line that `check` writes of a datagram behind `out`, but for the number in front of it. Where memory
 /// runs out a part of it may stand there.
@@ -24,11 +34,7 @@ pub(crate) fn push_said(
 {
     let mut line = Vec::new(alloc);
     push_check_line(&mut line, 0, said)?;
-    match line.as_slice() {
-        // The line has a number.
-        [] => Ok(()),
-        [_digit, words @ ..] => out.extend_from_slice(words),
-    }
+    out.extend_from_slice(behind_first(line.as_slice()))
 }
 
 // Puts why a packet is passed over behind `out`.

@@ -12,8 +12,8 @@ returns-in-Err c = λ s is.
     let read = rw (← c.as_slice.ensures.value) at whole.1 in
     let impossible = sym c.in-Err.ensures.refused ∙ read in absurd (cc)
 
-pub returns-in-Ok : goal.returns-in-Ok
-returns-in-Ok c = λ s is.
+pub returns : goal.returns
+returns c = λ s is.
     let whole = rw c.in-Some.is at c.in_ok-found.ensures in
     let read = rw (← c.as_slice.ensures.value) at whole.1 in
     cut_found c.say_cut.result c.args.tables.now s c.args.fault c.args.bytes.now c.args.line.now.items _ (Some c.in-Ok.datagram) is (cut_read c.args.bytes.now whole.0 c.in-Ok.datagram whole.2 (sym c.in-Ok.ensures.read ∙ read)) (c.say_cut.ensures s)
