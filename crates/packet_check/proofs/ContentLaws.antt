@@ -1,10 +1,10 @@
 -- What is said of what a packet has, and what it counts as.
-use Rattle.std.proofs.Common.{◌≡◌, ℕ, Bool, true, false, List, [], ◌∷◌, ◌++◌, append_assoc, codes, decimal, Option, Some, None, Result, Ok, Err, IfOk, IfSome, refl, sym, ap, subst, ◌∙◌}
+use Rattle.std.proofs.Common.{◌≡◌, ℕ, Bool, false, List, [], ◌∷◌, ◌++◌, append_assoc, codes, decimal, Option, Some, None, Result, Ok, Err, IfOk, IfSome, refl, sym, ap, subst, ◌∙◌}
 use Rattle.book_base.specs.declared.address.Pair.{Pair}
 use Rattle.book_segments.specs.declared.fault.DatagramFault.{DatagramFault}
 use Rattle.book_segments.specs.Segments.{Segment, Reading, Read, Bad, reading}
 use Rattle.book_keys.specs.Rows.{Table}
-use Rattle.book_lines.specs.Texts.{line_text, spaced}
+use Rattle.book_lines.specs.Texts.{spaced}
 use Rattle.book_captures.specs.Captures.{CapturePacket}
 use Rattle.book_cmd_check.specs.Captures.{Connection, Saying, Stored, Unreadable, hear, hear_read, is_pass, saying_texts}
 use Rattle.book_sessions.specs.declared.outcome.PassedOver.{PassedOver}

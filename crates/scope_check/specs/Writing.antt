@@ -1,5 +1,5 @@
 -- What is read of a capture and written of it, by a key file (own). Its top is `Writes`.
-use Rattle.std.specs.Prelude.{◌≡◌, ℕ, Bool, List, [], Result, Ok, Err}
+use Rattle.std.specs.Prelude.{◌≡◌, ℕ, Bool, List, Result, Ok, Err}
 use Rattle.std.specs.List.{All}
 use Rattle.ao_base.specs.Outside.{Side, Gave}
 use Rattle.book_base.specs.Hexadecimal.{IsByte}

@@ -1,4 +1,4 @@
-use Rattle.std.proofs.Common.{None, Some, sym, ap, ◌∙◌}
+use Rattle.std.proofs.Common.{None, Some, sym, ◌∙◌}
 use Rattle.packet_check.proofs.ContentLaws.{cut_found, cut_read}
 use Rattle.packet_check.proofs.checked.check_fault.Goals as goal
 

@@ -1,4 +1,3 @@
-use Rattle.std.proofs.Common.{sym, ap, ◌∙◌}
 use Rattle.packet_check.proofs.ContentLaws.{segment_checked}
 use Rattle.packet_check.proofs.checked.check_segment.Goals as goal
 

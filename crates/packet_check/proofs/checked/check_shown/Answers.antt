@@ -1,4 +1,3 @@
-use Rattle.std.proofs.Common.{◌∙◌}
 use Rattle.packet_check.specs.Checking.{stored_as}
 use Rattle.packet_check.proofs.ContentLaws.{packet_checked}
 use Rattle.packet_check.proofs.checked.check_shown.Goals as goal

@@ -1,4 +1,3 @@
-use Rattle.std.proofs.Common.{refl}
 use Rattle.book_scope_check.specs.CheckedPackets.{checked_from, classes_of}
 use Rattle.packet_check.specs.Reading.{held_from}
 use Rattle.packet_check.proofs.PacketWalk.{packet_heard}
