@@ -4,7 +4,6 @@
 #![tactic(auto)]
 
 mod asked;
-mod check;
 mod draw;
 mod echo;
 mod halt;
@@ -22,5 +21,5 @@ mod top;
 mod why;
 mod words;
 
-pub use asked::{Asked, CheckAsked, DrawAsked, EchoAsked, PacketAsked, PlanAsked, SessionsAsked};
+pub use asked::{Asked, DrawAsked, EchoAsked, PacketAsked, PlanAsked, SessionsAsked};
 pub use top::run;
