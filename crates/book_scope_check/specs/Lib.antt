@@ -1,0 +1,3 @@
+pub mod CheckedLines
+pub mod CheckedPackets
+pub mod Outcomes

@@ -1,0 +1,6 @@
+pub mod ContentLaws
+pub mod EndLaws
+pub mod PacketLaws
+pub mod PacketWalk
+pub mod SayingLaws
+pub mod TallyLaws
