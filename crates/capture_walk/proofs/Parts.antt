@@ -66,7 +66,13 @@ module _ (told : List CapturePacket → List ℕ) (stands : List CapturePacket �
         record {
           gave = gave_all between.taken steps.gave;
           bytes = bytes_all between.taken next steps.bytes;
-          ends = record { at_end = steps.answers.1; faultless = ap (λ c. c.fault) all; heard = rw all between.heard; wrote = rw all between.wrote };
+          ends = record {
+            has_read = rw all (has_read between.taken next steps.few);
+            at_end = steps.answers.1;
+            faultless = ap (λ c. c.fault) all;
+            heard = rw all between.heard;
+            wrote = rw all between.wrote;
+          };
         }
 
     -- a fault of the capture

@@ -25,6 +25,7 @@ pub record Between (told : List CapturePacket → List ℕ) (stands : List Captu
 -- the whole capture was read, all its packets heard, and all that is told of them was written (own)
 pub record Finishes (told : List CapturePacket → List ℕ) (stands : List CapturePacket → Type 0)
     (given : List ℕ) (source_now out_before out_now : Side) : Type 0 where
+  pub has_read : HasRead given (capture_of given).packets
   pub at_end : IsAtEnd source_now
   pub faultless : (capture_of given).fault ≡ None
   pub heard : stands (capture_of given).packets

@@ -19,6 +19,9 @@ use Rattle.scope_sessions.specs.declared.count.CountHalt.{CountHalt}
 use Rattle.scope_sessions.specs.declared.count.CountHalt.TheVariants as halt
 use Rattle.scope_sessions.specs.Texts.{BreaksText}
 use Rattle.capture_walk.specs.HasRead.{HasRead}
+use Rattle.capture_walk.specs.declared.walking.WalkEnd.{WalkEnd}
+use Rattle.capture_walk.specs.declared.walking.WalkHalt.{WalkHalt}
+use Rattle.capture_walk.specs.declared.walking.WalkHalt.TheVariants as walk_halt
 
 -- the source is at its end, where the capture has no fault; and where it has one, then whatever
 -- follows in the source
@@ -34,6 +37,15 @@ series_behind document judging given request =
 -- the same, of tables and laps
 abbrev pub series_of : Members → List Table → (laps : ℕ) → List GivenIsns → TableRequest → Series
 series_of document tables laps = series_behind document (record { tables = tables; laps = laps })
+
+-- the fault that a capture has behind its packets, if it has one, where its walk ended so
+abbrev pub fault_behind : Result WalkEnd WalkHalt → Result (Option CaptureFault) CountHalt
+fault_behind (Ok how) = Ok None
+fault_behind (Err (walk_halt.Broken fault)) = Ok (Some fault)
+fault_behind (Err walk_halt.TooLong) = Err halt.TooLong
+fault_behind (Err walk_halt.Read) = Err halt.Read
+fault_behind (Err walk_halt.Write) = Err halt.Write
+fault_behind (Err walk_halt.Memory) = Err halt.Memory
 
 -- what was counted, where that ended so
 abbrev pub counted_with : Hearing → SessionTable → Result (Option CaptureFault) CountHalt →

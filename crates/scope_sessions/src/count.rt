@@ -1,24 +1,23 @@
 //! The packets of a capture, counted one after another.
-ghost use Rattle.std.specs.Prelude.{◌≡◌, ◌≤◌, ◌<◌, ℕ, List, IfOk, IsSome, Ok, OnOk, Some, length};
+ghost use Rattle.std.specs.Prelude.{◌≡◌, ◌≤◌, ◌<◌, ℕ, List, IfOk, IsSome, OnOk, Some, length};
 ghost use Rattle.toml.specs.View.{table_view};
 ghost use Rattle.ao_base.specs.Outside.{Side};
 ghost use Rattle.book_captures.specs.Captures.{CapturePacket};
-ghost use Rattle.book_sessions.specs.Listening.{Listening, listening_behind};
-ghost use Rattle.book_sessions.specs.Sessions.{captured_by, no_sessions};
-ghost use Rattle.book_cmd_check.specs.declared.given.GivenIsns.{GivenIsns};
+ghost use Rattle.book_sessions.specs.Listening.{Listening};
+ghost use Rattle.book_sessions.specs.Sessions.{captured_by};
 ghost use Rattle.capture_listener.specs.Listeners.{Knows};
-ghost use Rattle.capture_stream.specs.Reads.{new_reading};
 ghost use Rattle.scope_lines.specs.Writes.{found_in};
 ghost use Rattle.scope_sessions.specs.Counting.{CountsPacket, CountsStored};
-ghost use Rattle.scope_sessions.specs.Reading.{Counts, counted_with, series_behind, series_of};
+ghost use Rattle.scope_sessions.specs.Reading.{Counts, fault_behind, series_of};
 
-use crate::due::{TextHalt, counted_since, second_of, write_due};
+use crate::due::{counted_since, second_of, write_due};
 use crate::stored::count_stored;
 use ao_base::{Sink, Source, Steps};
 use book_sessions::{GivenIsns, PassedOver};
 use capture_listener::Listener;
 use capture_reader::FoundDatagram;
-use capture_stream::{CaptureFault, CaptureHalt, CaptureReader, CaptureStep, Skipped};
+use capture_stream::{CaptureFault, CaptureReader, Skipped};
+use capture_walk::{HearHalt, Heard, Hearer, WalkEnd, WalkHalt, walk};
 use key_table::Tables;
 use page_sessions_json::TableRequest;
 use scope_lines::judged;
@@ -85,24 +84,28 @@ fn count_found<L: Ledger>(
     }
 }
 
-// Counts the packet that the reader shows.
+// Counts the packet that the reader shows, with a counter of derivations.
 fn count_packet<L: Ledger>(
     listener: &mut Listener,
     index: &mut SessionIndex,
     alloc: Global,
-    steps: &mut Steps<L>,
     reader: &CaptureReader,
+    blank: Blank,
 ) -> Result<(), AllocError>
-    requires { IsSome reader.now.packet }
+    requires name { blank.name ≡ L.name }
+    requires parts { blank.parts ≡ L.parts }
+    requires part { 0 < blank.parts }
+    requires shown { IsSome reader.now.packet }
     ensures counts { (k : Listening) (p : CapturePacket) → reader.now.packet ≡ Some p → Knows listener.old k → OnOk result
         (CountsPacket listener.old.judging k listener.new index.old index.new p) }
     ensures judging { listener.new.judging ≡ listener.old.judging }
 {
+    let mut steps = Steps::<L>::new(blank);
     count_found(
         listener,
         index,
         alloc,
-        steps,
+        &mut steps,
         reader.number(),
         reader.time(),
         reader.frame(),
@@ -110,103 +113,68 @@ fn count_packet<L: Ledger>(
     )
 }
 
-// Counts all packets that a new reader shows, into an index that has none, and writes the tables that are due in
-// front of them. The fault that the capture has behind its packets, if it has one.
-fn count_all<L: Ledger, I: Source, O: Sink>(
-    reader: &mut CaptureReader,
-    listener: &mut Listener,
-    index: &mut SessionIndex,
-    alloc: Global,
-    steps: &mut Steps<L>,
-    document: &toml::Table,
+/// Counts each packet that it hears, and writes the table that is due in front of it before it is counted.
+#[derive(Drop)]
+struct PacketCounter<'a> {
+    listener: Listener,
+    index: SessionIndex,
+    since: Option<u64>,
+    document: &'a toml::Table,
     request: TableRequest,
-    input: &mut I,
-    out: &mut O,
-) -> Result<Option<CaptureFault>, CountHalt>
-    requires reader { reader.old ≡ new_reading }
-    requires index { index.old ≡ no_sessions }
-    ensures { (isns : List GivenIsns) → Knows listener.old (listening_behind isns) → (given : List ℕ) ×
-        Counts (series_behind (table_view document.now) listener.old.judging isns request) given
-        (I.side input.old) (I.side input.new) (O.side out.old) (O.side out.new)
-        (counted_with listener.new index.new result) }
-{
-    let mut since = None;
-    'parts: loop {
-        match reader.next(input) {
-            Ok(CaptureStep::Packet) => {}
-            Ok(CaptureStep::Block) => continue 'parts,
-            Ok(CaptureStep::End) => return Ok(None),
-            Err(CaptureHalt::Read) => return Err(CountHalt::Read),
-            Err(CaptureHalt::TooLong) => return Err(CountHalt::TooLong),
-            Err(CaptureHalt::Broken(fault)) => return Ok(Some(fault)),
-        }
-        let now = second_of(reader.time());
-        match write_due(
-            alloc,
-            request,
-            document,
-            listener.tables(),
-            index,
-            since,
+    alloc: Global,
+}
+
+impl Hearer for PacketCounter<'_> {
+    ghost use Rattle.toml.specs.View.{table_view};
+    ghost use Rattle.page_sessions_json.specs.TableSeries.{Series, early_text};
+    ghost use Rattle.scope_sessions.specs.Counting.{StandsAfter};
+
+    ghost Asked = { Series };
+
+    ghost told = { early_text };
+
+    ghost stands = { λ s counter packets. StandsAfter s (table_view counter.document.now) counter.request counter.listener counter.index counter.since packets };
+
+    ghost stops = { λ s counter packets last. ⊥ };
+
+    fn hear<O: Sink>(&mut self, shown: &CaptureReader, out: &mut O) -> Result<Heard, HearHalt> {
+        let now = second_of(shown.time());
+        write_due(
+            self.alloc,
+            self.request,
+            self.document,
+            self.listener.tables(),
+            &self.index,
+            self.since,
             now,
             out,
+        )?;
+        self.since = counted_since(self.request.every, self.since, now);
+        match count_packet::<Brand>(
+            &mut self.listener,
+            &mut self.index,
+            self.alloc,
+            shown,
+            Blank::new(1),
         ) {
-            Ok(()) => {}
-            Err(TextHalt::Write) => return Err(CountHalt::Write),
-            Err(TextHalt::Memory) => return Err(CountHalt::Memory),
-        }
-        since = counted_since(request.every, since, now);
-        match count_packet(listener, index, alloc, steps, reader) {
-            Ok(()) => {}
-            Err(_) => return Err(CountHalt::Memory),
+            Ok(()) => Ok(Heard::Next),
+            Err(_) => Err(HearHalt::Memory),
         }
     }
 }
 
-// The same as `count_capture`, with a counter of derivations. The loop stands apart, over what it borrows: each of
-// its ends would drop what was made here.
-fn count_counted<L: Ledger, I: Source, O: Sink>(
-    alloc: Global,
-    tables: Tables,
-    laps: u32,
-    isns: &[GivenIsns],
-    document: &toml::Table,
-    request: TableRequest,
-    input: &mut I,
-    out: &mut O,
-    blank: Blank,
-) -> Result<Counted, CountHalt>
-    requires name { blank.name ≡ L.name }
-    requires parts { blank.parts ≡ L.parts }
-    requires part { 0 < blank.parts }
-    ensures { (given : List ℕ) × Counts (series_of (table_view document.now) tables laps isns.now request) given (I.side input.old) (I.side input.new) (O.side out.old) (O.side out.new) result }
+// The fault that the capture has behind its packets, if it has one, where the walk ended so.
+fn ended(walked: Result<WalkEnd, WalkHalt>) -> Result<Option<CaptureFault>, CountHalt>
+    ensures { result ≡ fault_behind walked }
 {
-    let mut steps = Steps::<L>::new(blank);
-    let mut reader = match CaptureReader::new(alloc) {
-        Ok(reader) => reader,
-        Err(_) => return Err(CountHalt::Memory),
-    };
-    let mut listener = match Listener::behind(alloc, tables, laps, isns) {
-        Ok(listener) => listener,
-        Err(_) => return Err(CountHalt::Memory),
-    };
-    let mut index = SessionIndex::new(alloc);
-    let fault = count_all(
-        &mut reader,
-        &mut listener,
-        &mut index,
-        alloc,
-        &mut steps,
-        document,
-        request,
-        input,
-        out,
-    )?;
-    Ok(Counted {
-        listener,
-        index,
-        fault,
-    })
+    match walked {
+        Ok(_) => Ok(None),
+        Err(WalkHalt::Broken(fault)) => Ok(Some(fault)),
+        Err(WalkHalt::TooLong) => Err(CountHalt::TooLong),
+        Err(WalkHalt::Read) => Err(CountHalt::Read),
+        Err(WalkHalt::Write) => Err(CountHalt::Write),
+        Err(WalkHalt::Memory) => Err(CountHalt::Memory),
+    }
 }
 
 /// Counts the packets of a capture, judged by the tables and over so many laps as behind handshakes with the
@@ -226,15 +194,27 @@ pub(crate) fn count_capture<I: Source, O: Sink>(
 ) -> Result<Counted, CountHalt>
     ensures { (given : List ℕ) × Counts (series_of (table_view document.now) tables laps isns.now request) given (I.side input.old) (I.side input.new) (O.side out.old) (O.side out.new) result }
 {
-    count_counted::<Brand, I, O>(
-        alloc,
-        tables,
-        laps,
-        isns,
+    let mut reader = match CaptureReader::new(alloc) {
+        Ok(reader) => reader,
+        Err(_) => return Err(CountHalt::Memory),
+    };
+    let listener = match Listener::behind(alloc, tables, laps, isns) {
+        Ok(listener) => listener,
+        Err(_) => return Err(CountHalt::Memory),
+    };
+    let index = SessionIndex::new(alloc);
+    let mut counter = PacketCounter {
+        listener,
+        index,
+        since: None,
         document,
         request,
-        input,
-        out,
-        Blank::new(1),
-    )
+        alloc,
+    };
+    let fault = ended(walk(&mut reader, &mut counter, input, out))?;
+    Ok(Counted {
+        listener: counter.listener,
+        index: counter.index,
+        fault,
+    })
 }

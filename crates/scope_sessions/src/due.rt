@@ -11,6 +11,7 @@ use crate::json_table::push_json;
 use crate::session_texts::push_time;
 use crate::table_text::push_table;
 use ao_base::{Failed, Sink, write_all};
+use capture_walk::HearHalt;
 use key_table::Tables;
 use page_sessions_json::{TableForm, TableRequest};
 use session_index::SessionIndex;
@@ -19,15 +20,6 @@ use text_lines::push_newline;
 
 /// How many nanoseconds a second has.
 const NANOSECONDS: u64 = 1_000_000_000;
-
-/// Why a text wasn't written.
-#[derive(Clone, Copy)]
-pub(crate) enum TextHalt {
-    /// A write failed.
-    Write,
-    /// Memory ran out.
-    Memory,
-}
 
 /// The second of a time in nanoseconds.
 pub(crate) fn second_of(time: Option<u64>) -> Option<u64>
@@ -122,12 +114,12 @@ fn push_due(
 }
 
 // Writes this text.
-fn write_text<O: Sink>(text: &[u8], out: &mut O) -> Result<(), TextHalt>
+fn write_text<O: Sink>(text: &[u8], out: &mut O) -> Result<(), HearHalt>
     ensures { WritesText text.now (O.side out.old) (O.side out.new) result }
 {
     match write_all(out, text) {
         Ok(()) => Ok(()),
-        Err(Failed) => Err(TextHalt::Write),
+        Err(Failed) => Err(HearHalt::Write),
     }
 }
 
@@ -140,13 +132,13 @@ fn write_table<O: Sink>(
     index: &SessionIndex,
     now: Option<u64>,
     out: &mut O,
-) -> Result<(), TextHalt>
+) -> Result<(), HearHalt>
     ensures { WritesText (written_as request (keys_at (table_view document.now) tables.now) index.now ++ time_line request.form now) (O.side out.old) (O.side out.new) result }
 {
     let mut text = Vec::new(alloc);
     match push_due(alloc, request, &mut text, document, tables, index, now) {
         Ok(()) => write_text(text.as_slice(), out),
-        Err(_) => Err(TextHalt::Memory),
+        Err(_) => Err(HearHalt::Memory),
     }
 }
 
@@ -160,7 +152,7 @@ pub(crate) fn write_due<O: Sink>(
     since: Option<u64>,
     now: Option<u64>,
     out: &mut O,
-) -> Result<(), TextHalt>
+) -> Result<(), HearHalt>
     ensures { WritesText (due_table request (keys_at (table_view document.now) tables.now) index.now since now) (O.side out.old) (O.side out.new) result }
 {
     if is_due(request.every, since, now) {
