@@ -4,3 +4,4 @@ pub mod Options
 pub mod Searching
 pub mod Walk
 pub mod Within
+pub mod WholeCaptures

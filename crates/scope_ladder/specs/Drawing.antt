@@ -14,7 +14,7 @@ use Rattle.book_sessions.specs.Sessions.{stored_of_packet}
 use Rattle.book_draw_session.specs.declared.rung.SessionEnds.{SessionEnds}
 use Rattle.book_draw_session.specs.declared.rung.SessionRung.{SessionRung}
 use Rattle.book_draw_session.specs.declared.span.DrawnTime.{DrawnTime}
-use Rattle.book_draw_session.specs.Rungs.{drawn_by, rung_before, rungs_in, rungs_of_session, seen_at, session_at, sessions_drawn}
+use Rattle.book_draw_session.specs.Rungs.{drawn_by, rung_before, rungs_in, rungs_of_session, seen_at, session_at, session_rungs_from, sessions_drawn}
 use Rattle.book_draw_session.specs.Times.{left_out}
 use Rattle.page_draw_session_svg.specs.declared.form.LadderForm.{LadderForm}
 use Rattle.page_draw_session_svg.specs.SessionPictures.{session_as}
@@ -72,6 +72,13 @@ pub record Follows (q : Request) (d : Drawer) (rungs : List SessionRung) (k : Li
   pub within : d.within ≡ q.within
   pub left : d.left ≡ left_out q.within (rungs_of_session q.number rungs)
   pub kept : d.kept.items ≡ kept_in q.form q.within q.number rungs
+
+-- these packets were drawn, whatever packets follow
+pub record StandsAfter (q : Request) (d : Drawer) (packets : List CapturePacket) : Type 0 where
+  pub known : Listening
+  pub follows : Follows q d (rungs_for q packets) known
+  pub comes : (more : List CapturePacket) →
+      rungs_for q (packets ++ more) ≡ rungs_for q packets ++ session_rungs_from q.judging known more
 
 -- a segment that was read, and seen at this time, was drawn: it added these segments to the rungs, and the text to
 -- what is drawn of them before all is read

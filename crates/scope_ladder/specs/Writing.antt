@@ -6,14 +6,19 @@ use Rattle.ao_base.specs.Outside.{Side, Gave, WasWritten, Rose, IsAtEnd, told}
 use Rattle.book_base.specs.Hexadecimal.{IsByte}
 use Rattle.book_captures.specs.declared.capture_parts.CaptureFault.{CaptureFault}
 use Rattle.book_captures.specs.Captures.{CapturePacket, capture_of}
+use Rattle.book_draw_session.specs.declared.rung.SessionRung.{SessionRung}
 use Rattle.book_draw_session.specs.Rungs.{sessions_drawn}
 use Rattle.capture_stream.specs.Reads.{most_read}
 use Rattle.scope_ladder.specs.declared.draw.LadderHalt.{LadderHalt}
 use Rattle.scope_ladder.specs.declared.draw.LadderHalt.TheVariants as halt
-use Rattle.scope_ladder.specs.declared.draw.TextHalt.{TextHalt}
-use Rattle.scope_ladder.specs.declared.draw.TextHalt.TheVariants as text_halt
-use Rattle.scope_ladder.specs.Drawing.{Request, drawn_text, flow_text, rungs_for, session_in}
+use Rattle.scope_ladder.specs.declared.drawer.Drawer.{Drawer}
+use Rattle.scope_ladder.specs.Drawing.{Request, drawn_text, flow_text, last_text, rungs_for, session_in}
+use Rattle.scope_ladder.specs.Searches.{Seeks, Tells}
 use Rattle.capture_walk.specs.HasRead.{HasRead}
+use Rattle.capture_walk.specs.Hearing.{TellsPart}
+use Rattle.capture_walk.specs.declared.walking.WalkEnd.{WalkEnd}
+use Rattle.capture_walk.specs.declared.walking.WalkHalt.{WalkHalt}
+use Rattle.capture_walk.specs.declared.walking.WalkHalt.TheVariants as walk_halt
 
 -- the whole capture was read, and its session drawn (own)
 pub record Finishes (q : Request) (given : List ℕ) (source_now out_before out_now : Side) : Type 0 where
@@ -93,21 +98,27 @@ pub record Writes (q : Request) (given : List ℕ)
   pub bytes : All IsByte given
   pub ends : Ends q given source_before source_now out_before out_now result
 
--- a front part of this text was written
-pub record BreaksText (text : List ℕ) (out_before out_now : Side) : Type 0 where
-  pub n : ℕ
-  pub not_all : n < length text
-  pub wrote : WasWritten (take n text) out_before out_now
-  pub rose : Rose out_before out_now
-
--- what became of this text
-abbrev pub WritesText : List ℕ → Side → Side → Result (Unit {0}) TextHalt → Type 0
-WritesText text out_before out_now (Ok done) = WasWritten text out_before out_now
-WritesText text out_before out_now (Err text_halt.Write) = BreaksText text out_before out_now
-
 -- what is drawn when all is read was written, and this is told then; or memory ran out, or a write failed
 abbrev pub WritesLast : (text : List ℕ) → Side → Side → (after result : Result (Unit {0}) LadderHalt) → Type 0
 WritesLast text out_before out_now after result =
     (WasWritten text out_before out_now × (result ≡ after))
     ⊎ ((WasWritten [] out_before out_now × (result ≡ Err halt.Memory))
-    ⊎ (BreaksText text out_before out_now × (result ≡ Err halt.Write)))
+    ⊎ (TellsPart text out_before out_now × (result ≡ Err halt.Write)))
+
+-- a drawing ends so where the walk over the capture ended so: what is drawn when all is read was
+-- written, or nothing more, where a write failed before or memory ran out
+abbrev pub EndsBy : Drawer → (out_before out_now : Side) → Result WalkEnd WalkHalt →
+    Result (Unit {0}) LadderHalt → Type 0
+EndsBy d out_before out_now (Ok how) result = (after : Result (Unit {0}) LadderHalt) ×
+    ((rs : List SessionRung) → Seeks d.search rs → Tells d.search.number rs after) ×
+    WritesLast (last_text d) out_before out_now after result
+EndsBy d out_before out_now (Err (walk_halt.Broken fault)) result =
+    WritesLast (last_text d) out_before out_now (Err (halt.Broken fault)) result
+EndsBy d out_before out_now (Err walk_halt.TooLong) result =
+    WritesLast (last_text d) out_before out_now (Err halt.TooLong) result
+EndsBy d out_before out_now (Err walk_halt.Read) result =
+    WritesLast (last_text d) out_before out_now (Err halt.Read) result
+EndsBy d out_before out_now (Err walk_halt.Write) result =
+    (out_now ≡ out_before) × (result ≡ Err halt.Write)
+EndsBy d out_before out_now (Err walk_halt.Memory) result =
+    (out_now ≡ out_before) × (result ≡ Err halt.Memory)

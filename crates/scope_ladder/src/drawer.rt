@@ -1,5 +1,5 @@
 //! A session of a capture, drawn packet by packet.
-ghost use Rattle.std.specs.Prelude.{◌≡◌, ◌≤◌, ◌/◌, [], false, List, IfOk, IsSome, Ok, OnOk, Some, length};
+ghost use Rattle.std.specs.Prelude.{◌≡◌, ◌<◌, ◌≤◌, ◌/◌, [], false, List, IfOk, IsSome, Ok, OnOk, Some, length};
 ghost use Rattle.book_captures.specs.Captures.{CapturePacket};
 ghost use Rattle.book_segments.specs.declared.fault.DatagramFault.{DatagramFault};
 ghost use Rattle.book_segments.specs.Segments.{Read, Segment as Cut, reading};
@@ -16,24 +16,27 @@ use crate::draw::LadderRequest;
 use crate::protections::protection_of;
 use crate::search::Search;
 use crate::shown::{NANOSECONDS, keep_shown, left_with, push_shown};
-use ao_base::Steps;
+use ao_base::{Sink, Steps};
 use book_draw_session::{DrawnTime, LeftOut, SessionRung};
 use book_sessions::{GivenIsns, SegmentOutcome};
 use capture_listener::{HeardSegment, Listener, cut_whole, key_ids, mended};
 use capture_reader::FoundDatagram;
 use capture_stream::{CaptureReader, Skipped};
+use capture_walk::{HearHalt, Heard, Hearer, tell};
 use key_table::Tables;
 use page_draw_session_svg::LadderForm;
 use scope_lines::judged;
 use std::alloc::{AllocError, Global};
-use std::sync::ledger::Ledger;
+use std::marker::Brand;
+use std::sync::ledger::{Blank, Ledger};
 use tcp_segment::{Datagram, read_datagram};
 
 /// What draws a session in a form, of those segments that were seen within a time: what is heard of the capture, the
 /// search for the session, how many of its segments are left out, the text that is drawn of the packet that came
-/// last, and the segments that are kept for a picture.
+/// last, and the segments that are kept for a picture. It hears packets, and tells the text of each.
 #[derive(Drop)]
 pub(crate) struct Drawer {
+    pub(crate) alloc: Global,
     pub(crate) form: LadderForm,
     pub(crate) within: DrawnTime,
     pub(crate) listener: Listener,
@@ -74,6 +77,7 @@ impl Drawer {
     {
         let listener = Listener::behind(alloc, tables, asked.laps, isns)?;
         Ok(Drawer {
+            alloc,
             form: asked.form,
             within: asked.within,
             listener,
@@ -90,7 +94,6 @@ impl Drawer {
     // Draws a datagram that was seen at a time, in nanoseconds since 1970.
     fn draw_datagram<L: Ledger>(
         &mut self,
-        alloc: Global,
         steps: &mut Steps<L>,
         packet: u64,
         time: u64,
@@ -102,7 +105,7 @@ impl Drawer {
     {
         let heard = self
             .listener
-            .hear(alloc, time / NANOSECONDS, datagram, steps)?;
+            .hear(self.alloc, time / NANOSECONDS, datagram, steps)?;
         let form = self.form;
         let within = self.within;
         let rung = session_rung(packet, time, datagram, heard);
@@ -137,19 +140,13 @@ impl Drawer {
     }
 
     // Draws bytes that are no datagram: a segment that was cut off, or nothing.
-    fn draw_cut(
-        &mut self,
-        alloc: Global,
-        packet: u64,
-        time: u64,
-        bytes: &[u8],
-    ) -> Result<(), AllocError>
+    fn draw_cut(&mut self, packet: u64, time: u64, bytes: &[u8]) -> Result<(), AllocError>
         requires text { self.old.text.items ≡ [] }
         requires bad { is_segment (reading bytes.now) ≡ false }
         ensures { (q : Request) (rungs : List Segment) (k : Listening) → Follows q self.old rungs k
             → OnOk result (Adds q self.new rungs k (Some time) (Ok (record { number = packet; time = time / 1000000000; bytes = bytes.now }))) }
     {
-        let found = cut_whole(alloc, bytes)?;
+        let found = cut_whole(self.alloc, bytes)?;
         match found {
             None => Ok(()),
             Some(whole) => self.draw_whole(packet, time, whole.as_slice()),
@@ -159,7 +156,6 @@ impl Drawer {
     // Draws the bytes that are judged at a time, in nanoseconds since 1970.
     fn draw_judged<L: Ledger>(
         &mut self,
-        alloc: Global,
         steps: &mut Steps<L>,
         packet: u64,
         time: u64,
@@ -170,15 +166,14 @@ impl Drawer {
             → OnOk result (Adds q self.new rungs k (Some time) (Ok (record { number = packet; time = time / 1000000000; bytes = bytes.now }))) }
     {
         match read_datagram(bytes) {
-            Err(_) => self.draw_cut(alloc, packet, time, bytes),
-            Ok(datagram) => self.draw_datagram(alloc, steps, packet, time, &datagram),
+            Err(_) => self.draw_cut(packet, time, bytes),
+            Ok(datagram) => self.draw_datagram(steps, packet, time, &datagram),
         }
     }
 
     // Draws the bytes that were seen at a time, in nanoseconds since 1970, with their header checksum.
     fn draw_stored<L: Ledger>(
         &mut self,
-        alloc: Global,
         steps: &mut Steps<L>,
         packet: u64,
         time: u64,
@@ -188,17 +183,16 @@ impl Drawer {
         ensures { (q : Request) (rungs : List Segment) (k : Listening) → Follows q self.old rungs k
             → OnOk result (Adds q self.new rungs k (Some time) (Ok (record { number = packet; time = time / 1000000000; bytes = mended bytes.now }))) }
     {
-        let found = mended(alloc, bytes)?;
+        let found = mended(self.alloc, bytes)?;
         match found {
-            None => self.draw_judged(alloc, steps, packet, time, bytes),
-            Some(whole) => self.draw_judged(alloc, steps, packet, time, whole.as_slice()),
+            None => self.draw_judged(steps, packet, time, bytes),
+            Some(whole) => self.draw_judged(steps, packet, time, whole.as_slice()),
         }
     }
 
     // Draws a packet whose frame has this datagram, or none for this reason.
     fn draw_found<L: Ledger>(
         &mut self,
-        alloc: Global,
         steps: &mut Steps<L>,
         packet: u64,
         time: Option<u64>,
@@ -215,31 +209,52 @@ impl Drawer {
             Ok(datagram) => match time {
                 None => Ok(()),
                 Some(time) => {
-                    self.draw_stored(alloc, steps, packet, time, judged(frame, datagram.first))
+                    self.draw_stored(steps, packet, time, judged(frame, datagram.first))
                 }
             },
         }
     }
 
-    /// Draws the packet that the reader shows.
-    pub(crate) fn draw_packet<L: Ledger>(
+    // Draws the packet that the reader shows, with a new counter of derivations.
+    fn draw_packet<L: Ledger>(
         &mut self,
-        alloc: Global,
-        steps: &mut Steps<L>,
         reader: &CaptureReader,
+        blank: Blank,
     ) -> Result<(), AllocError>
-        requires { IsSome reader.now.packet }
+        requires name { blank.name ≡ L.name }
+        requires parts { blank.parts ≡ L.parts }
+        requires part { 0 < blank.parts }
+        requires shown { IsSome reader.now.packet }
         ensures { (q : Request) (rungs : List Segment) (k : Listening) (p : CapturePacket) → reader.now.packet ≡ Some p → Follows q self.old rungs k
             → OnOk result (AddsPacket q self.new rungs k p) }
     {
+        let mut steps = Steps::<L>::new(blank);
         self.text.clear();
         self.draw_found(
-            alloc,
-            steps,
+            &mut steps,
             reader.number(),
             reader.time(),
             reader.frame(),
             reader.datagram(),
         )
+    }
+}
+
+impl Hearer for Drawer {
+    ghost use Rattle.scope_ladder.specs.Drawing.{Request, StandsAfter, flow_text};
+
+    ghost Asked = { Request };
+
+    ghost told = { flow_text };
+
+    ghost stands = { StandsAfter };
+
+    ghost stops = { λ q drawer packets last. ⊥ };
+
+    fn hear<O: Sink>(&mut self, shown: &CaptureReader, out: &mut O) -> Result<Heard, HearHalt> {
+        match self.draw_packet::<Brand>(shown, Blank::new(1)) {
+            Ok(()) => tell(self.text.as_slice(), out),
+            Err(_) => Err(HearHalt::Memory),
+        }
     }
 }

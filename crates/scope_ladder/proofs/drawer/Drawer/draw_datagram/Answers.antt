@@ -6,7 +6,7 @@ pub returns : goal.returns
 returns g c q rungs k follows =
     let before = c.args.self.now in
     adds_told c.keep_shown.result q before
-    (record { form = before.form; within = before.within; listener = c.hear.new.self; search = c.place.new.self; left = c.left_with-self.result; text = c.push_shown.new.out; kept = c.keep_shown.new.kept }) rungs k follows
+    (record { alloc = before.alloc; form = before.form; within = before.within; listener = c.hear.new.self; search = c.place.new.self; left = c.left_with-self.result; text = c.push_shown.new.out; kept = c.keep_shown.new.kept }) rungs k follows
     c.args.packet c.args.time c.args.datagram.now c.in_ok-heard.heard c.session_rung-rung.result c.in_ok-shown.shown
     (record {
       empty = c.requires;

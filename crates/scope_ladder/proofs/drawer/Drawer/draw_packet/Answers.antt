@@ -3,7 +3,7 @@ use Rattle.scope_ladder.proofs.Drawn.{adds_on}
 use Rattle.scope_ladder.proofs.drawer.Drawer.draw_packet.Goals as goal
 
 pub draw_found-requires-clause-found : goal.draw_found-requires-clause-found
-draw_found-requires-clause-found g c = found_within c.args.reader.now.packet c.frame.result.now c.datagram.result c.requires c.frame.ensures c.datagram.ensures.ordered c.datagram.ensures.within
+draw_found-requires-clause-found g c = found_within c.args.reader.now.packet c.frame.result.now c.datagram.result c.requires.shown c.frame.ensures c.datagram.ensures.ordered c.datagram.ensures.within
 
 pub returns : goal.returns
 returns g c q rungs k p is follows =

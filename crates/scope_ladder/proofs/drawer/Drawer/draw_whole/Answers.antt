@@ -10,7 +10,7 @@ returns-in_ok-push_shown-in-Ok c q rungs k s fault d follows read cut =
     let same = one_read c.in-Ok.datagram d (sym c.in-Ok.ensures.read ∙ read) in
     let before = c.args.self.now in
     cut_told c.keep_shown.result q before
-    (record { form = before.form; within = before.within; listener = before.listener; search = c.place.new.self; left = c.left_with-self.result; text = c.push_shown.new.out; kept = c.keep_shown.new.kept }) rungs k follows
+    (record { alloc = before.alloc; form = before.form; within = before.within; listener = before.listener; search = c.place.new.self; left = c.left_with-self.result; text = c.push_shown.new.out; kept = c.keep_shown.new.kept }) rungs k follows
     s c.args.time fault d c.session_rung-rung.result c.in_ok-shown-in-Ok.shown cut.bad cut.cut
     (record {
       empty = c.requires;
