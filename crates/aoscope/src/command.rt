@@ -1,6 +1,6 @@
 //! The words that the program knows, with a page of help for each.
 use crate::arguments::capture_file;
-use crate::{draw, echo, keys, plan, sessions, why};
+use crate::{check, draw, echo, keys, plan, sessions, why};
 use clap::Command;
 use std::alloc::{AllocError, Global};
 
@@ -47,6 +47,7 @@ pub(crate) fn command<'a>(alloc: Global) -> Result<Command<'a>, AllocError> {
         .subcommand_required(true)
         .arg_required_else_help(true)
         .subcommand(lines)?;
+    let program = with_word(program, check::command(alloc))?;
     let program = with_word(program, sessions::command(alloc))?;
     let program = with_word(program, why::command(alloc))?;
     let program = with_word(program, keys::command(alloc))?;

@@ -2,6 +2,7 @@
 #![tactic(auto)]
 
 mod arguments;
+mod check;
 mod command;
 mod draw;
 mod echo;
@@ -47,6 +48,7 @@ fn out_of_memory(rt: &HostRuntime) -> u8 {
 fn asked<'m>(word: &str, matches: &'m ArgMatches<'_>) -> Option<Asked<'m>> {
     match word {
         "lines" => Some(Asked::Lines),
+        "check" => check::asked(matches),
         "sessions" => sessions::asked(matches),
         "why" => why::asked(matches),
         "keys" => keys::asked(matches),

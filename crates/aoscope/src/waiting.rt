@@ -5,7 +5,7 @@ use std::io::IsTerminal;
 /// What the word reads from standard input, and how it is given.
 fn wanted(word: &str) -> Option<&'static [u8]> {
     match word {
-        "lines" | "sessions" | "why" => {
+        "lines" | "check" | "sessions" | "why" => {
             Some(b"waiting for a capture on standard input: < FILE, or tcpdump -w - |\n")
         }
         "plan" => Some(

@@ -18,6 +18,7 @@ use Rattle.book_sessions.specs.GivenLines.{given_isns_of}
 use Rattle.book_sessions.specs.declared.retiring.Retiring.{Retiring}
 use Rattle.command_report.specs.declared.report.Report.{Report}
 use Rattle.page_draw_svg.specs.declared.placed.Form.{Form}
+use Rattle.scope_check.specs.Writing.{Writes as WritesChecks}
 use Rattle.scope_draw.specs.Forms.{drawn, drawn_by_shared}
 use Rattle.scope_echo.specs.Forms.{echoed_by_shared, echoed_over}
 use Rattle.scope_ladder.specs.declared.draw.LadderHalt.{LadderHalt}
@@ -34,6 +35,7 @@ use Rattle.scope_why.specs.declared.write.WhyRequest.{WhyRequest}
 use Rattle.scope_why.specs.Writing.{Writes as WritesWhy}
 use Rattle.scope_run.specs.declared.asked.Asked.{Asked}
 use Rattle.scope_run.specs.declared.asked.Asked.TheVariants as asked
+use Rattle.scope_run.specs.declared.asked.CheckAsked.{CheckAsked}
 use Rattle.scope_run.specs.declared.asked.DrawAsked.{DrawAsked}
 use Rattle.scope_run.specs.declared.asked.EchoAsked.{EchoAsked}
 use Rattle.scope_run.specs.declared.asked.PacketAsked.{PacketAsked}
@@ -82,6 +84,13 @@ WithFiles has_isns Next g b n end =
     × ReadsFiles has_isns g.keys g.isns b.keys n.keys b.isns n.isns files
     × Then files (λ fs. Next fs.keys fs.isns) (flow g b n) end
 
+-- what `check` says of each packet of a capture is written (own)
+abbrev pub Checks : (all : Bool) → (keys isns : List ℕ) → Flow → Result Bool Halt → Type 0
+Checks all keys isns f end =
+    (r : Result Bool JudgingHalt)
+    × WritesChecks all keys isns f.given f.input_before f.input_now f.out_before f.out_now r
+    × (end ≡ tables_end r)
+
 -- the tables of a capture are written (own)
 abbrev pub Tabulates : TablesWanted → (keys isns : List ℕ) → Flow → Result Bool Halt → Type 0
 Tabulates w keys isns f end =
@@ -123,6 +132,12 @@ Explains w keys isns f end =
     (r : Result Bool JudgingHalt)
     × WritesWhy w keys isns f.given f.input_before f.input_now f.out_before f.out_now r
     × (end ≡ why_end r)
+
+-- the files are read, and then what `check` says written (own)
+abbrev pub ReadsAndChecks : (has_isns all : Bool) → Given → (b n : Sides) →
+    Result Bool Halt → Type 0
+ReadsAndChecks has_isns all g b n end =
+    WithFiles has_isns (λ keys isns. Checks all keys isns (flow g b n) end) g b n end
 
 -- the files are read, and then the tables written (own)
 abbrev pub ReadsAndTabulates : Bool → TablesWanted → Given → (b n : Sides) →
@@ -267,6 +282,7 @@ PlansBy p g b n end =
 abbrev pub Acts : Asked → Given → (b n : Sides) → Result Bool Halt → Type 0
 Acts asked.Lines g b n end =
     Unread g.keys b.keys n.keys × (Unread g.isns b.isns n.isns × Lists (flow g b n) end)
+Acts (asked.Check c) g b n end = ReadsAndChecks c.has_isns c.all g b n end
 Acts (asked.Sessions s) g b n end = SessionsBy (option_map (λ w. w.now) s.retire)
     (option_map (λ w. w.now) s.draw) s g b n end
 Acts (asked.Why p) g b n end = ExplainsBy p g b n end

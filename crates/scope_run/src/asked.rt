@@ -7,6 +7,8 @@ ghost use Rattle.scope_run.specs.Requests.{retired_word};
 pub enum Asked<'a> {
     /// The lines of a capture.
     Lines,
+    /// What the check says of each packet of a capture.
+    Check(CheckAsked),
     /// The sessions of a capture.
     Sessions(SessionsAsked<'a>),
     /// Why the check says what it says of a packet.
@@ -19,6 +21,15 @@ pub enum Asked<'a> {
     Draw(DrawAsked),
     /// The report of a link file beside its lines.
     Echo(EchoAsked),
+}
+
+/// What `check` is asked for: `--isn`, and `--all`.
+#[derive(Clone, Copy)]
+pub struct CheckAsked {
+    /// `--isn`: initial sequence numbers are given.
+    pub has_isns: bool,
+    /// Foreign segments are listed too.
+    pub all: bool,
 }
 
 /// What `sessions` is asked for. Where several of `retire` and `draw` are there, the first is done, or refused.

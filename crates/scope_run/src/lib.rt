@@ -4,6 +4,7 @@
 #![tactic(auto)]
 
 mod asked;
+mod check;
 mod draw;
 mod echo;
 mod halt;
@@ -21,5 +22,5 @@ mod top;
 mod why;
 mod words;
 
-pub use asked::{Asked, DrawAsked, EchoAsked, PacketAsked, PlanAsked, SessionsAsked};
+pub use asked::{Asked, CheckAsked, DrawAsked, EchoAsked, PacketAsked, PlanAsked, SessionsAsked};
 pub use top::run;

@@ -8,7 +8,7 @@ ghost use Rattle.scope_run.specs.Sides.{Given, Sides};
 use crate::asked::Asked;
 use crate::halt::status_at;
 use crate::tell::tell;
-use crate::{draw, echo, keys, lines, plan, sessions, why};
+use crate::{check, draw, echo, keys, lines, plan, sessions, why};
 use ao_base::{Sink, Source};
 use book_scope_run::Halt;
 use std::alloc::Global;
@@ -29,6 +29,7 @@ fn act<K: Source, J: Source, I: Source, O: Sink>(
 {
     match asked {
         Asked::Lines => lines::act(alloc, input, out),
+        Asked::Check(asked) => check::act(alloc, *asked, keys, isns, input, out),
         Asked::Sessions(asked) => sessions::act(alloc, asked, keys, isns, input, out),
         Asked::Why(asked) => why::act(alloc, asked, keys, isns, input, out),
         Asked::Keys => keys::act(alloc, keys, out),
@@ -43,9 +44,10 @@ fn act<K: Source, J: Source, I: Source, O: Sink>(
 /// `keys` is the key file, `isns` that of initial sequence numbers, `input` standard input or the file in its place,
 /// `out` standard output and `err` standard error. The words are looked at first; then the key file is read, then the
 /// initial sequence numbers, then the input, each only where the words ask for it. Where one of these can't be read,
-/// what comes after it isn't. `plan`, `draw` and `echo` judge the key file before they read the input; `sessions` and
-/// `why` judge it, and then the initial sequence numbers, when both were read, and before they read the input. `plan`,
-/// `draw`, `echo` and `keys` write when all was read, `lines` and `sessions` as their calls below say.
+/// what comes after it isn't. `plan`, `draw` and `echo` judge the key file before they read the input; `check`,
+/// `sessions` and `why` judge it, and then the initial sequence numbers, when both were read, and before they read the
+/// input. `plan`, `draw`, `echo` and `keys` write when all was read, `lines`, `check` and `sessions` as their calls
+/// below say.
 ///
 /// | status | comes | text for `err` |
 /// |---|---|---|

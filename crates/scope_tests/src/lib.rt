@@ -3,10 +3,14 @@
 #![tactic(auto)]
 
 #[cfg(test)]
+mod checks;
+#[cfg(test)]
 mod files;
 #[cfg(test)]
 mod of_capture_stream;
 #[cfg(test)]
 mod of_key_file;
+#[cfg(test)]
+mod of_packet_check;
 #[cfg(test)]
 mod of_scope_lines;

@@ -1,0 +1,13 @@
+use Rattle.std.proofs.Common.{[], refl}
+use Rattle.scope_run.proofs.check.act.Goals as goal
+
+pub returns-in-Ok : goal.returns-in-Ok
+returns-in-Ok g c =
+    let files = c.in-Ok.ensures in
+    let rest = c.write_lines.ensures in
+    (record { keys = files.0; isns = files.1; input = rest.0 }, (_, files.2, rest.1))
+
+pub returns-in-Err : goal.returns-in-Err
+returns-in-Err g c =
+    let files = c.in-Err.ensures in
+    (record { keys = files.0; isns = files.1; input = [] }, (_, files.2, record { is = refl; input = (refl, refl); out = refl }))
