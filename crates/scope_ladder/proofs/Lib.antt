@@ -4,4 +4,3 @@ pub mod Options
 pub mod Searching
 pub mod Walk
 pub mod Within
-pub mod WholeCaptures

@@ -34,7 +34,6 @@ use Rattle.scope_ladder.specs.declared.drawer.Drawer.{Drawer}
 use Rattle.scope_ladder.specs.Drawing.{AddsPacket, Follows, Request, StandsAfter, drawn_text, flow_text, last_text, rungs_for}
 use Rattle.scope_ladder.specs.Searches.{SeeksBy, Tells, flow_as, kept_in, last_as}
 use Rattle.scope_ladder.specs.Writing.{Breaks, Ends, EndsBy, Writes, WritesLast}
-use Rattle.scope_ladder.proofs.WholeCaptures.{all_read}
 
 -- ---- what is drawn before all is read
 
@@ -180,7 +179,7 @@ module _ (q : Request) (d : Drawer) (reader : Reading) (given : List ℕ) (a c o
       let packets = (capture_of given).packets in
       let f = w.heard.follows in
       let tells : Tells q.number (rungs_for q packets) by.0 = subst (λ (n : ℕ). Tells n (rungs_for q packets) by.0) f.number (by.1 (rungs_for q packets) f.seeks) in
-      ends_last q d given a c o p r packets by.0 result (all_read given w.faultless) w.heard w.wrote (ends_told q given a c o r by.0 w.at_end w.faultless tells) by.2
+      ends_last q d given a c o p r packets by.0 result w.has_read w.heard w.wrote (ends_told q given a c o r by.0 w.at_end w.faultless tells) by.2
   ends_by (Ok end.Done) w by = absurd w.here
   ends_by (Err (walk_halt.Broken fault)) w by =
       ends_last q d given a c o p r (capture_of given).packets (Err (halt.Broken fault)) result w.has_read w.heard w.wrote (λ wrote. record { has_read = w.has_read; fault_is = w.fault_is; all = w.all; wrote = wrote }) by

@@ -118,7 +118,8 @@ impl Drawer {
     // Draws a segment that was cut off, whose bytes are those of the stored ones, with zeros for the missing ones.
     fn draw_whole(&mut self, packet: u64, time: u64, bytes: &[u8]) -> Result<(), AllocError>
         requires { self.old.text.items ≡ [] }
-        ensures { (q : Request) (rungs : List Segment) (k : Listening) (s : Stored) (fault : DatagramFault) (d : Cut) → Follows q self.old rungs k → reading bytes.now ≡ Read d
+        ensures { (q : Request) (rungs : List Segment) (k : Listening) (s : Stored) (fault : DatagramFault) (d : Cut)
+            → Follows q self.old rungs k → reading bytes.now ≡ Read d
             → IsCutAs s packet fault d → OnOk result (Adds q self.new rungs k (Some time) (Ok s)) }
     {
         let heard = HeardSegment {
@@ -144,7 +145,8 @@ impl Drawer {
         requires text { self.old.text.items ≡ [] }
         requires bad { is_segment (reading bytes.now) ≡ false }
         ensures { (q : Request) (rungs : List Segment) (k : Listening) → Follows q self.old rungs k
-            → OnOk result (Adds q self.new rungs k (Some time) (Ok (record { number = packet; time = time / 1000000000; bytes = bytes.now }))) }
+            → OnOk result (Adds q self.new rungs k (Some time)
+            (Ok (record { number = packet; time = time / 1000000000; bytes = bytes.now }))) }
     {
         let found = cut_whole(self.alloc, bytes)?;
         match found {
@@ -163,7 +165,8 @@ impl Drawer {
     ) -> Result<(), AllocError>
         requires { self.old.text.items ≡ [] }
         ensures { (q : Request) (rungs : List Segment) (k : Listening) → Follows q self.old rungs k
-            → OnOk result (Adds q self.new rungs k (Some time) (Ok (record { number = packet; time = time / 1000000000; bytes = bytes.now }))) }
+            → OnOk result (Adds q self.new rungs k (Some time)
+            (Ok (record { number = packet; time = time / 1000000000; bytes = bytes.now }))) }
     {
         match read_datagram(bytes) {
             Err(_) => self.draw_cut(packet, time, bytes),
@@ -181,7 +184,8 @@ impl Drawer {
     ) -> Result<(), AllocError>
         requires { self.old.text.items ≡ [] }
         ensures { (q : Request) (rungs : List Segment) (k : Listening) → Follows q self.old rungs k
-            → OnOk result (Adds q self.new rungs k (Some time) (Ok (record { number = packet; time = time / 1000000000; bytes = mended bytes.now }))) }
+            → OnOk result (Adds q self.new rungs k (Some time)
+            (Ok (record { number = packet; time = time / 1000000000; bytes = mended bytes.now }))) }
     {
         let found = mended(self.alloc, bytes)?;
         match found {
@@ -225,7 +229,8 @@ impl Drawer {
         requires parts { blank.parts ≡ L.parts }
         requires part { 0 < blank.parts }
         requires shown { IsSome reader.now.packet }
-        ensures { (q : Request) (rungs : List Segment) (k : Listening) (p : CapturePacket) → reader.now.packet ≡ Some p → Follows q self.old rungs k
+        ensures { (q : Request) (rungs : List Segment) (k : Listening) (p : CapturePacket) → reader.now.packet ≡ Some p
+            → Follows q self.old rungs k
             → OnOk result (AddsPacket q self.new rungs k p) }
     {
         let mut steps = Steps::<L>::new(blank);

@@ -62,11 +62,14 @@ impl Search {
     // A segment, while the session isn't found.
     fn seek(&mut self, rung: &SessionRung) -> Result<Shown, AllocError>
         ensures number { self.new.number ≡ self.old.number }
-        ensures seeks { (rs : List Segment) → Seeks self.old rs → self.old.found ≡ None → OnOk result (Seeks self.new (rs ++ rung.now ∷ [])) }
+        ensures seeks { (rs : List Segment) → Seeks self.old rs → self.old.found ≡ None
+            → OnOk result (Seeks self.new (rs ++ rung.now ∷ [])) }
         ensures shown { (t : Time) (rs : List Segment) → Seeks self.old rs → self.old.found ≡ None
-            → IfOk result (λ shown. session_ladder t self.old.number (rs ++ rung.now ∷ []) ≡ session_ladder t self.old.number rs ++ shown_text t shown rung.now) }
+            → IfOk result (λ shown. session_ladder t self.old.number (rs ++ rung.now ∷ [])
+            ≡ session_ladder t self.old.number rs ++ shown_text t shown rung.now) }
         ensures rungs { (rs : List Segment) → Seeks self.old rs → self.old.found ≡ None
-            → IfOk result (λ shown. rungs_of_session self.old.number (rs ++ rung.now ∷ []) ≡ rungs_of_session self.old.number rs ++ shown_rungs shown rung.now) }
+            → IfOk result (λ shown. rungs_of_session self.old.number (rs ++ rung.now ∷ [])
+            ≡ rungs_of_session self.old.number rs ++ shown_rungs shown rung.now) }
     {
         if self.known.has(rung) {
             return Ok(Shown::Nothing);
@@ -85,9 +88,11 @@ impl Search {
         ensures number { self.new.number ≡ self.old.number }
         ensures seeks { (rs : List Segment) → Seeks self.old rs → OnOk result (Seeks self.new (rs ++ rung.now ∷ [])) }
         ensures shown { (t : Time) (rs : List Segment) → Seeks self.old rs
-            → IfOk result (λ shown. session_ladder t self.old.number (rs ++ rung.now ∷ []) ≡ session_ladder t self.old.number rs ++ shown_text t shown rung.now) }
+            → IfOk result (λ shown. session_ladder t self.old.number (rs ++ rung.now ∷ [])
+            ≡ session_ladder t self.old.number rs ++ shown_text t shown rung.now) }
         ensures rungs { (rs : List Segment) → Seeks self.old rs
-            → IfOk result (λ shown. rungs_of_session self.old.number (rs ++ rung.now ∷ []) ≡ rungs_of_session self.old.number rs ++ shown_rungs shown rung.now) }
+            → IfOk result (λ shown. rungs_of_session self.old.number (rs ++ rung.now ∷ [])
+            ≡ rungs_of_session self.old.number rs ++ shown_rungs shown rung.now) }
     {
         match self.found {
             None => self.seek(rung),

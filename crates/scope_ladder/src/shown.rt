@@ -2,7 +2,8 @@
 ghost use Rattle.std.specs.Prelude.{◌≡◌, ◌∷◌, ◌++◌, [], OnOk, if◌then◌else◌};
 ghost use Rattle.book_draw_session.specs.Folds.{counted_on};
 ghost use Rattle.book_draw_session.specs.Times.{is_early, is_late, is_timely, rungs_within};
-ghost use Rattle.scope_ladder.specs.Searches.{kept_as, left_and, left_with, shown_as, shown_rungs, shown_text, timely_text};
+ghost use Rattle.scope_ladder.specs.Searches.{kept_as, left_and, left_with, shown_as, shown_rungs, shown_text};
+ghost use Rattle.scope_ladder.specs.Searches.{timely_text};
 
 use crate::search::Shown;
 use book_draw_session::{DrawnTime, LeftOut, SessionEnds, SessionRung};

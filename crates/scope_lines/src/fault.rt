@@ -1,6 +1,7 @@
 //! What is wrong with a capture, in words.
 ghost use Rattle.std.specs.Prelude.{◌≡◌, ◌++◌, OnOk, decimal};
-ghost use Rattle.book_scope.specs.FaultTexts.{header_fault_text, record_fault_text, block_fault_text, body_fault_text, part_text, cause_text, capture_fault_text};
+ghost use Rattle.book_scope.specs.FaultTexts.{header_fault_text, record_fault_text, block_fault_text, body_fault_text};
+ghost use Rattle.book_scope.specs.FaultTexts.{part_text, cause_text, capture_fault_text};
 
 use ao_base::push_decimal;
 use capture_stream::{BlockFault, BodyFault, CaptureFault, Cause, PcapHeadFault, RecordFault};

@@ -1,5 +1,6 @@
 //! The line of a packet.
-ghost use Rattle.std.specs.Prelude.{◌≡◌, ◌/◌, ◌++◌, ◌∷◌, [], ◌≤◌, OnOk, IfOk, IfSome, IsSome, codes, decimal, drop, take, length};
+ghost use Rattle.std.specs.Prelude.{◌≡◌, ◌/◌, ◌++◌, ◌∷◌, [], ◌≤◌, OnOk, IfOk, IfSome, IsSome, codes, decimal, drop};
+ghost use Rattle.std.specs.Prelude.{take, length};
 ghost use Rattle.book_base.specs.Hexadecimal.{hex_of};
 ghost use Rattle.book_pcap.specs.Packets.{longest_datagram};
 ghost use Rattle.book_scope.specs.PacketLines.{header_text, reason_text, remark, line_by, packet_line};

@@ -77,7 +77,8 @@ pub fn write_lines<I: Source, O: Sink>(
     input: &mut I,
     out: &mut O,
 ) -> Result<(), LinesHalt>
-    ensures { (given : List ℕ) × Writes given (I.side input.old) (I.side input.new) (O.side out.old) (O.side out.new) result }
+    ensures { (given : List ℕ) × Writes given (I.side input.old) (I.side input.new) (O.side out.old) (O.side out.new)
+        result }
 {
     let mut reader = match CaptureReader::new(alloc) {
         Ok(reader) => reader,

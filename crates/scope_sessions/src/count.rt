@@ -64,7 +64,8 @@ fn count_found<L: Ledger>(
 ) -> Result<(), AllocError>
     requires { IfOk found (λ d. (d.first ≤ d.after) × (d.after ≤ length frame.now)) }
     ensures counts { (k : Listening) → Knows listener.old k → OnOk result
-        (CountsStored listener.old.judging k listener.new index.old index.new (captured_by packet time (found_in frame.now found))) }
+        (CountsStored listener.old.judging k listener.new index.old index.new
+        (captured_by packet time (found_in frame.now found))) }
     ensures judging { listener.new.judging ≡ listener.old.judging }
 {
     match found {
@@ -96,7 +97,8 @@ fn count_packet<L: Ledger>(
     requires parts { blank.parts ≡ L.parts }
     requires part { 0 < blank.parts }
     requires shown { IsSome reader.now.packet }
-    ensures counts { (k : Listening) (p : CapturePacket) → reader.now.packet ≡ Some p → Knows listener.old k → OnOk result
+    ensures counts { (k : Listening) (p : CapturePacket) → reader.now.packet ≡ Some p → Knows listener.old k
+        → OnOk result
         (CountsPacket listener.old.judging k listener.new index.old index.new p) }
     ensures judging { listener.new.judging ≡ listener.old.judging }
 {
@@ -133,7 +135,8 @@ impl Hearer for PacketCounter<'_> {
 
     ghost told = { early_text };
 
-    ghost stands = { λ s counter packets. StandsAfter s (table_view counter.document.now) counter.request counter.listener counter.index counter.since packets };
+    ghost stands = { λ s counter packets. StandsAfter s (table_view counter.document.now) counter.request
+        counter.listener counter.index counter.since packets };
 
     ghost stops = { λ s counter packets last. ⊥ };
 
@@ -192,7 +195,8 @@ pub(crate) fn count_capture<I: Source, O: Sink>(
     input: &mut I,
     out: &mut O,
 ) -> Result<Counted, CountHalt>
-    ensures { (given : List ℕ) × Counts (series_of (table_view document.now) tables laps isns.now request) given (I.side input.old) (I.side input.new) (O.side out.old) (O.side out.new) result }
+    ensures { (given : List ℕ) × Counts (series_of (table_view document.now) tables laps isns.now request) given
+        (I.side input.old) (I.side input.new) (O.side out.old) (O.side out.new) result }
 {
     let mut reader = match CaptureReader::new(alloc) {
         Ok(reader) => reader,

@@ -9,7 +9,7 @@ use std::alloc::Global;
 use toml::Table;
 
 /// The document that a text is; `Syntax` exactly where it is none.
-#[tactic(auto, unfolding(book_keys::specs::Nodes::tables_of_document, book_keys::specs::Nodes::tables_of), using(key_table::proofs::TextLaws::document_read))]
+#[tactic(auto, unfolding(book_keys::specs::Nodes::tables_of_document, book_keys::specs::Nodes::tables_of), using(key_table::proofs::TextLaws::document_read),)]
 pub(crate) fn read_document(alloc: Global, text: &[u8]) -> Result<Table, TableFault>
     ensures document { IfOk result (λ t. document_of text.now ≡ Some (table_view t)) }
     ensures refused { IfErr result (λ e. Fails e (tables_of text.now)) }

@@ -72,7 +72,8 @@ pub(crate) fn push_form(
     tables: &Tables,
     index: &SessionIndex,
 ) -> Result<(), AllocError>
-    ensures { OnOk result (text.new.items ≡ text.old.items ++ written_as request (keys_at (table_view document.now) tables.now) index.now) }
+    ensures { OnOk result (text.new.items ≡ text.old.items ++ written_as request
+        (keys_at (table_view document.now) tables.now) index.now) }
 {
     match request.form {
         TableForm::Lines => push_table(alloc, request.all, text, document, tables, index),
@@ -107,7 +108,9 @@ fn push_due(
     index: &SessionIndex,
     now: Option<u64>,
 ) -> Result<(), AllocError>
-    ensures { OnOk result (text.new.items ≡ text.old.items ++ (written_as request (keys_at (table_view document.now) tables.now) index.now ++ time_line request.form now)) }
+    ensures { OnOk result
+        (text.new.items ≡ text.old.items ++ (written_as request (keys_at (table_view document.now) tables.now) index.now
+        ++ time_line request.form now)) }
 {
     push_form(alloc, request, text, document, tables, index)?;
     push_end(text, request.form, now)
@@ -133,7 +136,8 @@ fn write_table<O: Sink>(
     now: Option<u64>,
     out: &mut O,
 ) -> Result<(), HearHalt>
-    ensures { WritesText (written_as request (keys_at (table_view document.now) tables.now) index.now ++ time_line request.form now) (O.side out.old) (O.side out.new) result }
+    ensures { WritesText (written_as request (keys_at (table_view document.now) tables.now) index.now
+        ++ time_line request.form now) (O.side out.old) (O.side out.new) result }
 {
     let mut text = Vec::new(alloc);
     match push_due(alloc, request, &mut text, document, tables, index, now) {
@@ -153,7 +157,8 @@ pub(crate) fn write_due<O: Sink>(
     now: Option<u64>,
     out: &mut O,
 ) -> Result<(), HearHalt>
-    ensures { WritesText (due_table request (keys_at (table_view document.now) tables.now) index.now since now) (O.side out.old) (O.side out.new) result }
+    ensures { WritesText (due_table request (keys_at (table_view document.now) tables.now) index.now since now)
+        (O.side out.old) (O.side out.new) result }
 {
     if is_due(request.every, since, now) {
         write_table(alloc, request, document, tables, index, now, out)

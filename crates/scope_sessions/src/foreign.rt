@@ -3,7 +3,8 @@ ghost use Rattle.std.specs.Prelude.{◌≡◌, ◌++◌, ◌∷◌, [], ◌||◌
 ghost use Rattle.std.specs.List.{list_all, list_any};
 ghost use Rattle.book_lines.specs.Texts.{line_text};
 ghost use Rattle.book_sessions.specs.Counts.{all_counted};
-ghost use Rattle.book_sessions.specs.Foreign.{foreign_sessions, is_of_others, is_foreign, is_of_node, is_without_key, listed_sessions, own_sessions, segments_of, uses_of};
+ghost use Rattle.book_sessions.specs.Foreign.{foreign_sessions, is_of_others, is_foreign, is_of_node, is_without_key};
+ghost use Rattle.book_sessions.specs.Foreign.{listed_sessions, own_sessions, segments_of, uses_of};
 ghost use Rattle.book_sessions.specs.OutcomeTexts.{is_verified};
 ghost use Rattle.book_sessions.specs.TableTexts.{foreign_line, foreign_lines, has_unverified, none_line};
 
@@ -47,7 +48,8 @@ fn is_without_key(protection: Protection) -> bool
 }
 
 fn is_at_node(tables: &Tables, one: &KeyUse) -> bool
-    ensures { result ≡ (is_of_node tables.now one.now.source.address || is_of_node tables.now one.now.destination.address) }
+    ensures { result ≡ (is_of_node tables.now one.now.source.address
+        || is_of_node tables.now one.now.destination.address) }
 {
     is_of_node(tables, &one.source.address) || is_of_node(tables, &one.destination.address)
 }
@@ -79,7 +81,8 @@ fn is_foreign(
 
 // Puts the number behind others, if it is chosen.
 fn push_chosen(numbers: &mut Vec<u64>, chosen: bool, number: u64) -> Result<(), AllocError>
-    ensures { OnOk result (numbers.new.items ≡ (if chosen then numbers.old.items ++ number ∷ [] else numbers.old.items)) }
+    ensures { OnOk result
+        (numbers.new.items ≡ (if chosen then numbers.old.items ++ number ∷ [] else numbers.old.items)) }
 {
     if chosen {
         numbers.push(number)?;
@@ -140,7 +143,8 @@ pub(crate) fn segments_of(
 }
 
 fn push_foreign_line(out: &mut Vec<u8>, sessions: u64, segments: u64) -> Result<(), AllocError>
-    ensures { OnOk result (out.new.items ≡ out.old.items ++ line_text (codes "foreign" ∷ codes "sessions" ∷ decimal sessions
+    ensures { OnOk result (out.new.items ≡ out.old.items ++ line_text
+        (codes "foreign" ∷ codes "sessions" ∷ decimal sessions
         ∷ codes "segments" ∷ decimal segments ∷ [])) }
 {
     out.extend_from_slice(b"foreign")?;

@@ -29,7 +29,8 @@ fn bits_of(datagram: &Datagram<'_>) -> SeenBits
 }
 
 fn seen_segment(packet: u64, time: u64, datagram: &Datagram<'_>, heard: HeardSegment) -> SeenSegment
-    ensures { (s : Stored) → s.number ≡ packet → s.time ≡ time → result ≡ seen_segment s datagram.now heard.outcome heard.pass }
+    ensures { (s : Stored) → s.number ≡ packet → s.time ≡ time
+        → result ≡ seen_segment s datagram.now heard.outcome heard.pass }
 {
     SeenSegment {
         packet,
@@ -55,7 +56,8 @@ fn listen<L: Ledger>(
 ) -> Result<SeenSegment, AllocError>
     ensures seen { (k : Listening) (s : Stored) → Knows listener.old k → s.number ≡ packet → s.time ≡ time
         → IfOk result (λ seen. IsSeen s datagram.now seen (listen listener.old.judging k time (Read datagram.now))) }
-    ensures knows { (k : Listening) → Knows listener.old k → OnOk result (Knows listener.new (listen listener.old.judging k time (Read datagram.now)).listening) }
+    ensures knows { (k : Listening) → Knows listener.old k → OnOk result
+        (Knows listener.new (listen listener.old.judging k time (Read datagram.now)).listening) }
     ensures judging { listener.new.judging ≡ listener.old.judging }
 {
     let heard = listener.hear(alloc, time, datagram, steps)?;
@@ -64,7 +66,8 @@ fn listen<L: Ledger>(
 
 // What is seen of the bytes of a segment that was cut off, with zeros for those that are missing.
 fn seen_whole(packet: u64, time: u64, bytes: &[u8]) -> Result<SeenSegment, DatagramFault>
-    ensures { (s : Stored) (d : Segment) → reading bytes.now ≡ Read d → s.number ≡ packet → s.time ≡ time → result ≡ Ok (seen_segment s d CutOff None) }
+    ensures { (s : Stored) (d : Segment) → reading bytes.now ≡ Read d → s.number ≡ packet → s.time ≡ time
+        → result ≡ Ok (seen_segment s d CutOff None) }
 {
     let heard = HeardSegment {
         outcome: SegmentOutcome::CutOff,
@@ -84,7 +87,8 @@ fn seen_cut(
     bytes: &[u8],
     fault: DatagramFault,
 ) -> Result<Result<SeenSegment, PassedOver>, AllocError>
-    ensures { (s : Stored) → s.number ≡ packet → s.time ≡ time → s.bytes ≡ bytes.now → IfOk result (λ seen. seen ≡ seen_cut s (cut_segment bytes.now) fault) }
+    ensures { (s : Stored) → s.number ≡ packet → s.time ≡ time → s.bytes ≡ bytes.now
+        → IfOk result (λ seen. seen ≡ seen_cut s (cut_segment bytes.now) fault) }
 {
     let found = cut_whole(alloc, bytes)?;
     match found {
@@ -107,7 +111,8 @@ pub(crate) fn hear<L: Ledger>(
     bytes: &[u8],
 ) -> Result<Result<SeenSegment, PassedOver>, AllocError>
     ensures heard { (k : Listening) → Knows listener.old k
-        → IfOk result (λ seen. IsHeard (stored_at packet time bytes.now) (reading bytes.now) seen listener.new (listen listener.old.judging k time (reading bytes.now))) }
+        → IfOk result (λ seen. IsHeard (stored_at packet time bytes.now) (reading bytes.now) seen listener.new
+        (listen listener.old.judging k time (reading bytes.now))) }
     ensures judging { listener.new.judging ≡ listener.old.judging }
 {
     match read_datagram(bytes) {

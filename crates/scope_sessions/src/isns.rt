@@ -62,7 +62,8 @@ fn isns_in(mut line: Saying) -> Result<GivenIsns, TextFault>
 
 /// What the lines that are left give.
 fn read_lines(alloc: Global, mut lines: SayingLines) -> Result<Vec<GivenIsns>, TextFault>
-    ensures { MatchResult result (λ v. given_from [] (said_by given_isns_in lines.entry) ≡ Ok v.items) (λ e. Fails e (given_from [] (said_by given_isns_in lines.entry))) }
+    ensures { MatchResult result (λ v. given_from [] (said_by given_isns_in lines.entry) ≡ Ok v.items)
+        (λ e. Fails e (given_from [] (said_by given_isns_in lines.entry))) }
 {
     let mut given = Vec::new(alloc);
     while let Some(line) = lines.next() {

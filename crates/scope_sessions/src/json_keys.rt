@@ -1,10 +1,13 @@
 //! The keys of a key file in JSON.
-ghost use Rattle.std.specs.Prelude.{◌≡◌, ◌++◌, ◌∷◌, [], ℕ, IfOk, List, OnOk, Some, codes, decimal, false, option_map, true};
+ghost use Rattle.std.specs.Prelude.{◌≡◌, ◌++◌, ◌∷◌, [], ℕ, IfOk, List, OnOk, Some, codes, decimal, false, option_map};
+ghost use Rattle.std.specs.Prelude.{true};
 ghost use Rattle.toml.specs.View.{table_view};
 ghost use Rattle.page_sessions_json.specs.Json.{json_items, json_member};
-ghost use Rattle.page_sessions_json.specs.SessionJson.{asked_for_json, key_json, keys_json, last_used_json, may_go_json, name_json, peers_json, rows_json};
+ghost use Rattle.page_sessions_json.specs.SessionJson.{asked_for_json, key_json, keys_json, last_used_json};
+ghost use Rattle.page_sessions_json.specs.SessionJson.{may_go_json, name_json, peers_json, rows_json};
 ghost use Rattle.scope_sessions.specs.Halts.{keys_at};
-ghost use Rattle.scope_sessions.specs.JsonParts.{from_members, id_members, node_members, seen_members, state_members, told_members};
+ghost use Rattle.scope_sessions.specs.JsonParts.{from_members, id_members, node_members, seen_members, state_members};
+ghost use Rattle.scope_sessions.specs.JsonParts.{told_members};
 
 use crate::json_values::{push_address_text, push_comma, push_name, push_string, push_time};
 use crate::users::{first_asking, last_carrying};
@@ -100,7 +103,8 @@ fn push_node(
     table: &Table,
     number: u8,
 ) -> Result<(), AllocError>
-    ensures { OnOk result (out.new.items ≡ out.old.items ++ 123 ∷ json_items true (node_members (table_view document.now) table.now number)) }
+    ensures { OnOk result (out.new.items ≡ out.old.items ++ 123
+        ∷ json_items true (node_members (table_view document.now) table.now number)) }
 {
     push_name(out, b'{', b"node")?;
     push_string(out, table.name())?;
@@ -149,7 +153,8 @@ fn push_count(out: &mut Vec<u8>, peers: Option<u64>) -> Result<(), AllocError>
 
 // Puts how many peers were seen behind `out`, as the last member.
 fn push_peers(out: &mut Vec<u8>, peers: Option<u64>) -> Result<(), AllocError>
-    ensures { OnOk result (out.new.items ≡ out.old.items ++ (44 ∷ json_member (codes "peers_seen") (peers_json peers) ++ 125 ∷ [])) }
+    ensures { OnOk result
+        (out.new.items ≡ out.old.items ++ (44 ∷ json_member (codes "peers_seen") (peers_json peers) ++ 125 ∷ [])) }
 {
     push_name(out, b',', b"peers_seen")?;
     push_count(out, peers)?;
@@ -166,7 +171,8 @@ fn push_told(
     may: &[u8],
     peers: Option<u64>,
 ) -> Result<(), AllocError>
-    ensures { OnOk result (out.new.items ≡ out.old.items ++ (json_items false (told_members last asking may.now peers) ++ 125 ∷ [])) }
+    ensures { OnOk result
+        (out.new.items ≡ out.old.items ++ (json_items false (told_members last asking may.now peers) ++ 125 ∷ [])) }
 {
     push_state(alloc, out, last, asking, may)?;
     push_peers(out, peers)?;
@@ -183,7 +189,8 @@ fn push_key(
     row_number: u8,
     row: &Row,
 ) -> Result<(), AllocError>
-    ensures { OnOk result (out.new.items ≡ out.old.items ++ key_json (keys_at (table_view document.now) tables.now) evidence.now table.now row_number row.now) }
+    ensures { OnOk result (out.new.items ≡ out.old.items ++ key_json (keys_at (table_view document.now) tables.now)
+        evidence.now table.now row_number row.now) }
 {
     let number = u64::from(row_number);
     let last = last_carrying(evidence.uses(), table, number, row);
@@ -208,7 +215,8 @@ fn push_rows(
     table: &Table,
 ) -> Result<bool, AllocError>
     ensures { (others : List (List ℕ)) → IfOk result (λ still. out.new.items ++ json_items still others
-        ≡ out.old.items ++ json_items first (rows_json (keys_at (table_view document.now) tables.now) evidence.now table.now 1 table.now.rows ++ others)) }
+        ≡ out.old.items ++ json_items first (rows_json (keys_at (table_view document.now) tables.now) evidence.now
+        table.now 1 table.now.rows ++ others)) }
 {
     // It tells that a table has at most 64 rows, so that each number fits.
     let _count = table.rows();
@@ -239,7 +247,8 @@ pub(crate) fn push_keys(
     evidence: &Evidence,
     tables: &Tables,
 ) -> Result<(), AllocError>
-    ensures { OnOk result (out.new.items ≡ out.old.items ++ json_items true (keys_json (keys_at (table_view document.now) tables.now) evidence.now)) }
+    ensures { OnOk result (out.new.items ≡ out.old.items ++ json_items true
+        (keys_json (keys_at (table_view document.now) tables.now) evidence.now)) }
 {
     let mut first = true;
     for i in 0..tables.nodes() {

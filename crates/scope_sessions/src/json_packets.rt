@@ -83,7 +83,8 @@ fn push_seen(
     uses: &[KeyUse],
 ) -> Result<(), AllocError>
     ensures { OnOk result (out.new.items ≡ out.old.items ++ (123 ∷ json_member (codes "segments") (decimal segments)
-        ++ (44 ∷ json_member (codes "first") (first_json uses.now) ++ (44 ∷ json_member (codes "last") (last_json uses.now))))) }
+        ++ (44 ∷ json_member (codes "first") (first_json uses.now)
+        ++ (44 ∷ json_member (codes "last") (last_json uses.now))))) }
 {
     push_name(out, b'{', b"segments")?;
     push_decimal(out, segments)?;

@@ -4,7 +4,8 @@ ghost use Rattle.std.specs.List.{find, list_any};
 ghost use Rattle.book_sessions.specs.declared.uses.KeyUse.{KeyUse as Use};
 ghost use Rattle.book_sessions.specs.SessionTexts.{is_of_session, opens_session};
 ghost use Rattle.page_sessions_json.specs.Json.{json_array, json_bool, json_items, json_member};
-ghost use Rattle.page_sessions_json.specs.SessionJson.{end_json, heading_json, protection_word, sender_place, session_json, use_json, uses_json};
+ghost use Rattle.page_sessions_json.specs.SessionJson.{end_json, heading_json, protection_word, sender_place};
+ghost use Rattle.page_sessions_json.specs.SessionJson.{session_json, use_json, uses_json};
 ghost use Rattle.scope_sessions.specs.JsonParts.{asked_members, late_members, sender_members, span_members};
 
 use crate::json_values::{
@@ -30,7 +31,8 @@ fn push_end(alloc: Global, out: &mut Vec<u8>, socket: &Socket) -> Result<(), All
 }
 
 fn push_ends(alloc: Global, out: &mut Vec<u8>, first: &KeyUse) -> Result<(), AllocError>
-    ensures { OnOk result (out.new.items ≡ out.old.items ++ json_array (end_json first.now.source ∷ end_json first.now.destination ∷ [])) }
+    ensures { OnOk result (out.new.items ≡ out.old.items ++ json_array
+        (end_json first.now.source ∷ end_json first.now.destination ∷ [])) }
 {
     out.push(b'[')?;
     push_end(alloc, out, &first.source)?;
@@ -64,7 +66,8 @@ fn protection_word(protection: Protection) -> &'static [u8]
 // Puts the first members of segments behind `out`: who sent them, under which KeyID, and how they are
 // protected.
 fn push_sender(out: &mut Vec<u8>, heading: &KeyUse, one: &KeyUse) -> Result<(), AllocError>
-    ensures { OnOk result (out.new.items ≡ out.old.items ++ 123 ∷ json_items true (sender_members heading.now one.now)) }
+    ensures { OnOk result (out.new.items ≡ out.old.items ++ 123
+        ∷ json_items true (sender_members heading.now one.now)) }
 {
     push_name(out, b'{', b"sender")?;
     push_decimal(out, sender_place(heading, one))?;
@@ -99,7 +102,8 @@ fn push_late(alloc: Global, out: &mut Vec<u8>, one: &KeyUse) -> Result<(), Alloc
 
 // Puts the last packet of segments behind `out`, as the last member.
 fn push_packet(out: &mut Vec<u8>, packet: u64) -> Result<(), AllocError>
-    ensures { OnOk result (out.new.items ≡ out.old.items ++ (44 ∷ json_member (codes "packet") (decimal packet) ++ 125 ∷ [])) }
+    ensures { OnOk result
+        (out.new.items ≡ out.old.items ++ (44 ∷ json_member (codes "packet") (decimal packet) ++ 125 ∷ [])) }
 {
     push_name(out, b',', b"packet")?;
     push_decimal(out, packet)?;
@@ -140,8 +144,11 @@ fn push_use_in(
     heading: &KeyUse,
     one: &KeyUse,
 ) -> Result<bool, AllocError>
-    ensures { (others : List Use) → IfOk result (λ still. out.new.items ++ json_items still (map (use_json heading.now) (filter (is_of_session number) others))
-        ≡ out.old.items ++ json_items first (map (use_json heading.now) (filter (is_of_session number) (one.now ∷ others)))) }
+    ensures { (others : List Use)
+        → IfOk result (λ still. out.new.items ++ json_items still
+        (map (use_json heading.now) (filter (is_of_session number) others))
+        ≡ out.old.items ++ json_items first (map (use_json heading.now)
+        (filter (is_of_session number) (one.now ∷ others)))) }
 {
     if is_of_session(number, one) {
         push_comma(out, first)?;
@@ -158,7 +165,8 @@ fn push_uses(
     heading: &KeyUse,
     uses: &[KeyUse],
 ) -> Result<(), AllocError>
-    ensures { OnOk result (out.new.items ≡ out.old.items ++ json_items true (map (use_json heading.now) (filter (is_of_session number) uses.now))) }
+    ensures { OnOk result (out.new.items ≡ out.old.items ++ json_items true
+        (map (use_json heading.now) (filter (is_of_session number) uses.now))) }
 {
     let mut first = true;
     for one in uses {
@@ -177,7 +185,8 @@ fn push_heading(
     first: &KeyUse,
 ) -> Result<(), AllocError>
     ensures { OnOk result (out.new.items ≡ out.old.items ++ (123 ∷ json_member (codes "number") (decimal number)
-        ++ (44 ∷ json_member (codes "ends") (json_array (end_json first.now.source ∷ end_json first.now.destination ∷ []))
+        ++ (44 ∷ json_member (codes "ends")
+        (json_array (end_json first.now.source ∷ end_json first.now.destination ∷ []))
         ++ (44 ∷ json_member (codes "handshake_seen") (json_bool seen))))) }
 {
     push_name(out, b'{', b"number")?;
@@ -196,7 +205,9 @@ fn push_directions(
     heading: &KeyUse,
     uses: &[KeyUse],
 ) -> Result<(), AllocError>
-    ensures { OnOk result (out.new.items ≡ out.old.items ++ (44 ∷ json_member (codes "directions") (uses_json number heading.now uses.now) ++ 125 ∷ [])) }
+    ensures { OnOk result
+        (out.new.items ≡ out.old.items ++ (44 ∷ json_member (codes "directions") (uses_json number heading.now uses.now)
+        ++ 125 ∷ [])) }
 {
     push_name(out, b',', b"directions")?;
     out.push(b'[')?;
@@ -244,7 +255,8 @@ pub(crate) fn push_sessions(
     index: &SessionIndex,
     numbers: &[u64],
 ) -> Result<(), AllocError>
-    ensures { OnOk result (out.new.items ≡ out.old.items ++ json_items true (map (session_json index.now.uses) numbers.now)) }
+    ensures { OnOk result (out.new.items ≡ out.old.items ++ json_items true
+        (map (session_json index.now.uses) numbers.now)) }
 {
     let mut first = true;
     for number in numbers {

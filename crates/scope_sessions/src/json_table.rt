@@ -3,7 +3,8 @@ ghost use Rattle.std.specs.Prelude.{◌≡◌, ◌++◌, ◌∷◌, [], OnOk, co
 ghost use Rattle.toml.specs.View.{table_view};
 ghost use Rattle.book_sessions.specs.Retiring.{evidence_of};
 ghost use Rattle.page_sessions_json.specs.Json.{json_array, json_bool, json_member, json_object};
-ghost use Rattle.page_sessions_json.specs.SessionJson.{foreign_json, keys_json, packets_json, session_json, sessions_json};
+ghost use Rattle.page_sessions_json.specs.SessionJson.{foreign_json, keys_json, packets_json, session_json};
+ghost use Rattle.page_sessions_json.specs.SessionJson.{sessions_json};
 ghost use Rattle.scope_sessions.specs.Halts.{keys_at};
 
 use crate::foreign::{Numbers, numbers_of, segments_of};
@@ -19,7 +20,8 @@ use session_index::SessionIndex;
 use std::alloc::{AllocError, Global};
 
 fn push_counts(out: &mut Vec<u8>, sessions: u64, segments: u64) -> Result<(), AllocError>
-    ensures { OnOk result (out.new.items ≡ out.old.items ++ json_object (json_member (codes "sessions") (decimal sessions)
+    ensures { OnOk result (out.new.items ≡ out.old.items ++ json_object
+        (json_member (codes "sessions") (decimal sessions)
         ∷ json_member (codes "segments") (decimal segments) ∷ [])) }
 {
     push_name(out, b'{', b"sessions")?;
@@ -51,7 +53,9 @@ fn push_all_foreign(
     index: &SessionIndex,
     numbers: &[u64],
 ) -> Result<(), AllocError>
-    ensures { OnOk result (out.new.items ≡ out.old.items ++ (44 ∷ json_member (codes "foreign") (foreign_json index.now.uses numbers.now))) }
+    ensures { OnOk result
+        (out.new.items ≡ out.old.items
+        ++ (44 ∷ json_member (codes "foreign") (foreign_json index.now.uses numbers.now))) }
 {
     push_name(out, b',', b"foreign")?;
     push_foreign(alloc, out, index, numbers)
@@ -64,7 +68,9 @@ fn push_all_sessions(
     index: &SessionIndex,
     numbers: &[u64],
 ) -> Result<(), AllocError>
-    ensures { OnOk result (out.new.items ≡ out.old.items ++ (44 ∷ json_member (codes "sessions") (json_array (map (session_json index.now.uses) numbers.now)))) }
+    ensures { OnOk result
+        (out.new.items ≡ out.old.items
+        ++ (44 ∷ json_member (codes "sessions") (json_array (map (session_json index.now.uses) numbers.now)))) }
 {
     push_name(out, b',', b"sessions")?;
     out.push(b'[')?;
@@ -80,8 +86,11 @@ fn push_told(
     index: &SessionIndex,
     numbers: &Numbers,
 ) -> Result<(), AllocError>
-    ensures { OnOk result (out.new.items ≡ out.old.items ++ (44 ∷ json_member (codes "foreign") (foreign_json index.now.uses numbers.now.foreign.items)
-        ++ (44 ∷ json_member (codes "sessions") (json_array (map (session_json index.now.uses) numbers.now.listed.items))))) }
+    ensures { OnOk result
+        (out.new.items ≡ out.old.items
+        ++ (44 ∷ json_member (codes "foreign") (foreign_json index.now.uses numbers.now.foreign.items)
+        ++ (44 ∷ json_member (codes "sessions")
+        (json_array (map (session_json index.now.uses) numbers.now.listed.items))))) }
 {
     push_all_foreign(alloc, out, index, numbers.foreign.as_slice())?;
     push_all_sessions(alloc, out, index, numbers.listed.as_slice())
@@ -95,7 +104,10 @@ fn push_all_keys(
     index: &SessionIndex,
     tables: &Tables,
 ) -> Result<(), AllocError>
-    ensures { OnOk result (out.new.items ≡ out.old.items ++ (44 ∷ json_member (codes "keys") (json_array (keys_json (keys_at (table_view document.now) tables.now) (evidence_of index.now))))) }
+    ensures { OnOk result
+        (out.new.items ≡ out.old.items
+        ++ (44 ∷ json_member (codes "keys")
+        (json_array (keys_json (keys_at (table_view document.now) tables.now) (evidence_of index.now))))) }
 {
     let evidence = Evidence::of(alloc, index)?;
     push_name(out, b',', b"keys")?;
@@ -107,7 +119,8 @@ fn push_all_keys(
 
 // Puts whether anything is amiss behind `out`, as the last member.
 fn push_amiss(out: &mut Vec<u8>, amiss: bool) -> Result<(), AllocError>
-    ensures { OnOk result (out.new.items ≡ out.old.items ++ (44 ∷ json_member (codes "amiss") (json_bool amiss) ++ 125 ∷ 10 ∷ [])) }
+    ensures { OnOk result
+        (out.new.items ≡ out.old.items ++ (44 ∷ json_member (codes "amiss") (json_bool amiss) ++ 125 ∷ 10 ∷ [])) }
 {
     push_name(out, b',', b"amiss")?;
     push_bool(out, amiss)?;
@@ -125,7 +138,8 @@ pub(crate) fn push_json(
     tables: &Tables,
     index: &SessionIndex,
 ) -> Result<(), AllocError>
-    ensures { OnOk result (out.new.items ≡ out.old.items ++ sessions_json all (keys_at (table_view document.now) tables.now) index.now) }
+    ensures { OnOk result (out.new.items ≡ out.old.items ++ sessions_json all
+        (keys_at (table_view document.now) tables.now) index.now) }
 {
     let numbers = numbers_of(alloc, all, tables, index)?;
     let amiss = has_amiss(alloc, tables, index)?;

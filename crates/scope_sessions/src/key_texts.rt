@@ -6,7 +6,8 @@ ghost use Rattle.book_scope_texts.specs.Addresses.{usual_address_text};
 ghost use Rattle.book_scope_texts.specs.Instants.{instant_text};
 ghost use Rattle.scope_sessions.specs.Halts.{keys_at};
 ghost use Rattle.scope_sessions.specs.KeyRows.{found_line};
-ghost use Rattle.book_sessions.specs.KeyLines.{asking_texts, called_row, key_line, key_lines, keys_lines, last_texts, may_go_text, peers_word, seen_peers_text};
+ghost use Rattle.book_sessions.specs.KeyLines.{asking_texts, called_row, key_line, key_lines, keys_lines, last_texts};
+ghost use Rattle.book_sessions.specs.KeyLines.{may_go_text, peers_word, seen_peers_text};
 
 use crate::obstacles::push_obstacles;
 use crate::session_texts::{push_host, push_time};
@@ -108,7 +109,8 @@ fn push_called(
     table: &Table,
     number: u8,
 ) -> Result<(), AllocError>
-    ensures { OnOk result (out.new.items ≡ out.old.items ++ 32 ∷ called_row (table_view document.now) table.now number) }
+    ensures { OnOk result (out.new.items ≡ out.old.items ++ 32
+        ∷ called_row (table_view document.now) table.now number) }
 {
     push_text(out, table.name())?;
     push_admin(out, admin_name(document, table.name(), number))
@@ -151,7 +153,9 @@ fn push_state(
     may: &[u8],
     peers: Option<u64>,
 ) -> Result<(), AllocError>
-    ensures { OnOk result (out.new.items ≡ out.old.items ++ (spaced (last_texts last (asking_texts asking (may.now ∷ seen_peers_text peers))) ++ 10 ∷ [])) }
+    ensures { OnOk result
+        (out.new.items ≡ out.old.items
+        ++ (spaced (last_texts last (asking_texts asking (may.now ∷ seen_peers_text peers))) ++ 10 ∷ [])) }
 {
     push_last(out, last)?;
     push_asking(out, asking)?;
@@ -173,7 +177,8 @@ fn push_found(
     may: MayGo,
     peers: Option<u64>,
 ) -> Result<(), AllocError>
-    ensures { OnOk result (out.new.items ≡ out.old.items ++ found_line (table_view document.now) table.now number row.now last asking may peers) }
+    ensures { OnOk result (out.new.items ≡ out.old.items ++ found_line (table_view document.now) table.now number
+        row.now last asking may peers) }
 {
     push_row(out, document, table, number, row)?;
     push_state(out, last, asking, may_go_word(may), peers)
@@ -190,7 +195,8 @@ pub(crate) fn push_key(
     row_number: u8,
     row: &Row,
 ) -> Result<(), AllocError>
-    ensures { OnOk result (out.new.items ≡ out.old.items ++ key_line (keys_at (table_view document.now) tables.now) evidence.now table.now row_number row.now) }
+    ensures { OnOk result (out.new.items ≡ out.old.items ++ key_line (keys_at (table_view document.now) tables.now)
+        evidence.now table.now row_number row.now) }
 {
     let number = u64::from(row_number);
     let last = last_carrying(evidence.uses(), table, number, row);
@@ -211,7 +217,8 @@ fn push_rows(
     tables: &Tables,
     table: &Table,
 ) -> Result<(), AllocError>
-    ensures { OnOk result (out.new.items ≡ out.old.items ++ key_lines (keys_at (table_view document.now) tables.now) evidence.now table.now 1 table.now.rows) }
+    ensures { OnOk result (out.new.items ≡ out.old.items ++ key_lines (keys_at (table_view document.now) tables.now)
+        evidence.now table.now 1 table.now.rows) }
 {
     // It tells that a table has at most 64 rows, so that each number fits.
     let _count = table.rows();
@@ -239,7 +246,8 @@ pub(crate) fn push_keys(
     evidence: &Evidence,
     tables: &Tables,
 ) -> Result<(), AllocError>
-    ensures { OnOk result (out.new.items ≡ out.old.items ++ keys_lines (keys_at (table_view document.now) tables.now) evidence.now) }
+    ensures { OnOk result (out.new.items ≡ out.old.items ++ keys_lines (keys_at (table_view document.now) tables.now)
+        evidence.now) }
 {
     for i in 0..tables.nodes() {
         let table = tables.node(i + 1);

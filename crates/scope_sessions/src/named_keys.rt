@@ -3,7 +3,9 @@ ghost use Rattle.std.specs.Prelude.{◌≡◌, ◌++◌, ◌∷◌, [], ◌||◌
 ghost use Rattle.std.specs.List.{list_all};
 ghost use Rattle.toml.specs.View.{table_view};
 ghost use Rattle.book_keys.specs.Columns.{is_word};
-ghost use Rattle.book_sessions.specs.NamedKeys.{all_told, by_nodes, by_rows, is_named_so, is_yes, naming, retire_answer, retire_answers, retire_line, retire_lines, retire_status, retiring_of};
+ghost use Rattle.book_sessions.specs.NamedKeys.{all_told, by_nodes, by_rows, is_named_so, is_yes, naming};
+ghost use Rattle.book_sessions.specs.NamedKeys.{retire_answer, retire_answers, retire_line, retire_lines};
+ghost use Rattle.book_sessions.specs.NamedKeys.{retire_status, retiring_of};
 ghost use Rattle.book_sessions.specs.KeyLines.{key_line};
 ghost use Rattle.book_sessions.specs.Retiring.{evidence_of, is_id, may_go};
 ghost use Rattle.scope_sessions.specs.Halts.{keys_at};
@@ -60,8 +62,10 @@ fn push_row(
     number: u8,
     row: &Row,
 ) -> Result<(), AllocError>
-    ensures lines { OnOk result (out.new.items ≡ out.old.items ++ key_line (keys_at (table_view document.now) tables.now) evidence.now table.now number row.now) }
-    ensures answers { OnOk result (answers.new.items ≡ answers.old.items ++ may_go evidence.now tables.now table.now number row.now ∷ []) }
+    ensures lines { OnOk result (out.new.items ≡ out.old.items
+        ++ key_line (keys_at (table_view document.now) tables.now) evidence.now table.now number row.now) }
+    ensures answers { OnOk result (answers.new.items ≡ answers.old.items
+        ++ may_go evidence.now tables.now table.now number row.now ∷ []) }
 {
     let may = may_go(evidence, tables, table, u64::from(number), row);
     push_key(alloc, out, document, evidence, tables, table, number, row)?;
@@ -82,8 +86,12 @@ fn push_named(
     number: u8,
     row: &Row,
 ) -> Result<(), AllocError>
-    ensures lines { OnOk result (out.new.items ≡ out.old.items ++ retire_line (naming word.now (keys_at (table_view document.now) tables.now)) evidence.now table.now number row.now) }
-    ensures answers { OnOk result (answers.new.items ≡ answers.old.items ++ retire_answer (naming word.now (keys_at (table_view document.now) tables.now)) evidence.now table.now number row.now) }
+    ensures lines { OnOk result (out.new.items ≡ out.old.items
+        ++ retire_line (naming word.now (keys_at (table_view document.now) tables.now)) evidence.now table.now number
+        row.now) }
+    ensures answers { OnOk result (answers.new.items ≡ answers.old.items
+        ++ retire_answer (naming word.now (keys_at (table_view document.now) tables.now)) evidence.now table.now number
+        row.now) }
 {
     if !is_named_so(word, document, table, number, row) {
         return Ok(());
@@ -103,8 +111,12 @@ fn push_rows(
     tables: &Tables,
     table: &Table,
 ) -> Result<(), AllocError>
-    ensures lines { OnOk result (out.new.items ≡ out.old.items ++ by_rows (retire_line (naming word.now (keys_at (table_view document.now) tables.now)) evidence.now table.now) 1 table.now.rows) }
-    ensures answers { OnOk result (answers.new.items ≡ answers.old.items ++ by_rows (retire_answer (naming word.now (keys_at (table_view document.now) tables.now)) evidence.now table.now) 1 table.now.rows) }
+    ensures lines { OnOk result (out.new.items ≡ out.old.items
+        ++ by_rows (retire_line (naming word.now (keys_at (table_view document.now) tables.now)) evidence.now table.now)
+        1 table.now.rows) }
+    ensures answers { OnOk result (answers.new.items ≡ answers.old.items
+        ++ by_rows (retire_answer (naming word.now (keys_at (table_view document.now) tables.now)) evidence.now
+        table.now) 1 table.now.rows) }
 {
     // It tells that a table has at most 64 rows, so that each number fits.
     let _count = table.rows();
@@ -135,8 +147,10 @@ fn push_all_named(
     evidence: &Evidence,
     tables: &Tables,
 ) -> Result<(), AllocError>
-    ensures lines { OnOk result (out.new.items ≡ out.old.items ++ retire_lines word.now (keys_at (table_view document.now) tables.now) evidence.now) }
-    ensures answers { OnOk result (answers.new.items ≡ answers.old.items ++ retire_answers word.now (keys_at (table_view document.now) tables.now) evidence.now) }
+    ensures lines { OnOk result (out.new.items ≡ out.old.items
+        ++ retire_lines word.now (keys_at (table_view document.now) tables.now) evidence.now) }
+    ensures answers { OnOk result (answers.new.items ≡ answers.old.items
+        ++ retire_answers word.now (keys_at (table_view document.now) tables.now) evidence.now) }
 {
     for i in 0..tables.nodes() {
         let table = tables.node(i + 1);
@@ -186,8 +200,10 @@ pub(crate) fn push_retiring(
     tables: &Tables,
     index: &SessionIndex,
 ) -> Result<Retiring, AllocError>
-    ensures lines { OnOk result (out.new.items ≡ out.old.items ++ retire_lines word.now (keys_at (table_view document.now) tables.now) (evidence_of index.now)) }
-    ensures told { IfOk result (λ told. told ≡ retiring_of word.now (keys_at (table_view document.now) tables.now) (evidence_of index.now)) }
+    ensures lines { OnOk result (out.new.items ≡ out.old.items
+        ++ retire_lines word.now (keys_at (table_view document.now) tables.now) (evidence_of index.now)) }
+    ensures told { IfOk result (λ told. told ≡ retiring_of word.now (keys_at (table_view document.now) tables.now)
+        (evidence_of index.now)) }
 {
     let evidence = Evidence::of(alloc, index)?;
     let mut answers = Vec::new(alloc);

@@ -3,7 +3,9 @@ ghost use Rattle.std.specs.Prelude.{◌≡◌, ◌++◌, ◌∷◌, [], OnOk, co
 ghost use Rattle.std.specs.List.{flat_map, list_any};
 ghost use Rattle.book_scope_texts.specs.Addresses.{usual_address_text};
 ghost use Rattle.book_sessions.specs.declared.outcome.SegmentOutcome.TheVariants.{Verified};
-ghost use Rattle.book_sessions.specs.KeyLines.{absent_line, absent_text, doubt_line, held_line, held_line_at, held_text, is_peer_told, lacking_line, lines_without, obstacle_by, obstacle_line, obstacle_lines, unanswered_line, unseen_line};
+ghost use Rattle.book_sessions.specs.KeyLines.{absent_line, absent_text, doubt_line, held_line, held_line_at};
+ghost use Rattle.book_sessions.specs.KeyLines.{held_text, is_peer_told, lacking_line, lines_without, obstacle_by};
+ghost use Rattle.book_sessions.specs.KeyLines.{obstacle_line, obstacle_lines, unanswered_line, unseen_line};
 ghost use Rattle.book_sessions.specs.Retiring.{all_without, goes_from, is_of_peer, shows_peer};
 ghost use Rattle.scope_retiring.specs.Known.{HasSession};
 
@@ -120,7 +122,8 @@ fn push_held_at(
     one: &KeyUse,
 ) -> Result<(), AllocError>
     requires { HasSession evidence.now.uses one.now }
-    ensures { OnOk result (out.new.items ≡ out.old.items ++ held_line_at evidence.now table.now number row.now one.now) }
+    ensures { OnOk result (out.new.items ≡ out.old.items ++ held_line_at evidence.now table.now number row.now
+        one.now) }
 {
     if is_at_row(table, row, one) {
         push_held(out, evidence, table, number, row, one)
@@ -136,7 +139,8 @@ fn push_all_held(
     number: u64,
     row: &Row,
 ) -> Result<(), AllocError>
-    ensures { OnOk result (out.new.items ≡ out.old.items ++ flat_map (held_line_at evidence.now table.now number row.now) evidence.now.live) }
+    ensures { OnOk result (out.new.items ≡ out.old.items ++ flat_map
+        (held_line_at evidence.now table.now number row.now) evidence.now.live) }
 {
     for one in evidence.live() {
         push_held_at(out, evidence, table, number, row, one)?;
@@ -184,7 +188,8 @@ fn push_absent(
     without: bool,
     peer: &Option<Address>,
 ) -> Result<(), AllocError>
-    ensures { OnOk result (out.new.items ≡ out.old.items ++ absent_line evidence.now table.now row.now without peer.now) }
+    ensures { OnOk result (out.new.items ≡ out.old.items ++ absent_line evidence.now table.now row.now without
+        peer.now) }
 {
     if is_peer_told(evidence, table, row, without, peer) {
         Ok(())
@@ -200,7 +205,8 @@ fn push_all_absent(
     row: &Row,
     without: bool,
 ) -> Result<(), AllocError>
-    ensures { OnOk result (out.new.items ≡ out.old.items ++ flat_map (absent_line evidence.now table.now row.now without) row.now.peers) }
+    ensures { OnOk result (out.new.items ≡ out.old.items ++ flat_map
+        (absent_line evidence.now table.now row.now without) row.now.peers) }
 {
     for peer in row.peers() {
         push_absent(out, evidence, table, row, without, peer)?;
@@ -226,7 +232,8 @@ fn push_lacking(
     row: &Row,
     one: &KeyUse,
 ) -> Result<(), AllocError>
-    ensures { OnOk result (out.new.items ≡ out.old.items ++ lacking_line evidence.now tables.now table.now row.now one.now) }
+    ensures { OnOk result (out.new.items ≡ out.old.items ++ lacking_line evidence.now tables.now table.now row.now
+        one.now) }
 {
     if leaves_use(evidence, tables, table, row, one) {
         Ok(())
@@ -242,7 +249,8 @@ fn push_all_lacking(
     table: &Table,
     row: &Row,
 ) -> Result<(), AllocError>
-    ensures { OnOk result (out.new.items ≡ out.old.items ++ flat_map (lacking_line evidence.now tables.now table.now row.now) evidence.now.live) }
+    ensures { OnOk result (out.new.items ≡ out.old.items ++ flat_map
+        (lacking_line evidence.now tables.now table.now row.now) evidence.now.live) }
 {
     for one in evidence.live() {
         push_lacking(out, evidence, tables, table, row, one)?;
@@ -258,7 +266,8 @@ fn push_lacking_lines(
     row: &Row,
     without: bool,
 ) -> Result<(), AllocError>
-    ensures { OnOk result (out.new.items ≡ out.old.items ++ lines_without evidence.now tables.now table.now row.now without) }
+    ensures { OnOk result (out.new.items ≡ out.old.items ++ lines_without evidence.now tables.now table.now row.now
+        without) }
 {
     if without {
         push_all_lacking(out, evidence, tables, table, row)
@@ -286,7 +295,8 @@ pub(crate) fn push_obstacles(
     number: u64,
     row: &Row,
 ) -> Result<(), AllocError>
-    ensures { OnOk result (out.new.items ≡ out.old.items ++ obstacle_lines evidence.now tables.now table.now number row.now) }
+    ensures { OnOk result (out.new.items ≡ out.old.items ++ obstacle_lines evidence.now tables.now table.now number
+        row.now) }
 {
     let without = all_without(evidence, table, number, row);
     push_all_held(out, evidence, table, number, row)?;

@@ -30,7 +30,8 @@ fn write_counted<O: Sink>(
     counted: &Counted,
     out: &mut O,
 ) -> Result<Retiring, JudgingHalt>
-    ensures { WritesCounted (retire_report word.now) (table_view document.now) counted.now (O.side out.old) (O.side out.new) result }
+    ensures { WritesCounted (retire_report word.now) (table_view document.now) counted.now (O.side out.old)
+        (O.side out.new) result }
 {
     let tables = counted.listener.tables();
     let mut text = Vec::new(alloc);
@@ -61,7 +62,8 @@ pub fn write_retiring<I: Source, O: Sink>(
     input: &mut I,
     out: &mut O,
 ) -> Result<Retiring, JudgingHalt>
-    ensures { (given : List ℕ) × Writes (retire_report word.now) at_end laps keys.now isns.now given (I.side input.old) (I.side input.new) (O.side out.old) (O.side out.new) result }
+    ensures { (given : List ℕ) × Writes (retire_report word.now) at_end laps keys.now isns.now given (I.side input.old)
+        (I.side input.new) (O.side out.old) (O.side out.new) result }
 {
     let tables = match read_tables(alloc, keys) {
         Ok(tables) => tables,

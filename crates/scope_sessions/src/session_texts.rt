@@ -1,10 +1,13 @@
 //! The lines of a capture and of sessions.
-ghost use Rattle.std.specs.Prelude.{◌≡◌, ◌++◌, ◌∷◌, [], ◌==◌, ◌&&◌, List, OnOk, IfSome, cond, Some, None, codes, decimal};
+ghost use Rattle.std.specs.Prelude.{◌≡◌, ◌++◌, ◌∷◌, [], ◌==◌, ◌&&◌, List, OnOk, IfSome, cond, Some, None, codes};
+ghost use Rattle.std.specs.Prelude.{decimal};
 ghost use Rattle.std.specs.List.{find, flat_map, list_any};
 ghost use Rattle.book_lines.specs.Texts.{spaced};
 ghost use Rattle.book_scope_texts.specs.Addresses.{usual_address_text};
 ghost use Rattle.book_scope_texts.specs.Instants.{instant_text};
-ghost use Rattle.book_sessions.specs.SessionTexts.{capture_line, earliest_seen, heading_line, id_text, is_of_session, lines_of_session, opens_session, protection_text, seen_text, span_texts, use_line, use_line_in};
+ghost use Rattle.book_sessions.specs.SessionTexts.{capture_line, earliest_seen, heading_line, id_text, is_of_session};
+ghost use Rattle.book_sessions.specs.SessionTexts.{lines_of_session, opens_session, protection_text, seen_text};
+ghost use Rattle.book_sessions.specs.SessionTexts.{span_texts, use_line, use_line_in};
 
 use book_base::{Address, Socket};
 use book_sessions::{KeyUse, Protection};
@@ -42,7 +45,8 @@ fn push_id(out: &mut Vec<u8>, id: Option<u8>) -> Result<(), AllocError>
 
 // Puts the address and the port behind `out`, with a space in front of each.
 fn push_end(out: &mut Vec<u8>, socket: &Socket) -> Result<(), AllocError>
-    ensures { OnOk result (out.new.items ≡ out.old.items ++ spaced (usual_address_text socket.now.address ∷ decimal socket.now.port ∷ [])) }
+    ensures { OnOk result (out.new.items ≡ out.old.items ++ spaced
+        (usual_address_text socket.now.address ∷ decimal socket.now.port ∷ [])) }
 {
     push_host(out, &socket.address)?;
     push_number(out, u64::from(socket.port))
@@ -75,7 +79,8 @@ fn push_span(out: &mut Vec<u8>, uses: &[KeyUse]) -> Result<(), AllocError>
 
 // Puts the front of the line of a capture behind `out`: how many packets it has.
 fn push_packets(out: &mut Vec<u8>, segments: u64, others: u64) -> Result<(), AllocError>
-    ensures { OnOk result (out.new.items ≡ out.old.items ++ (codes "capture" ++ spaced (codes "segments" ∷ decimal segments
+    ensures { OnOk result
+        (out.new.items ≡ out.old.items ++ (codes "capture" ++ spaced (codes "segments" ∷ decimal segments
         ∷ codes "other" ∷ decimal others ∷ []))) }
 {
     out.extend_from_slice(b"capture")?;
@@ -153,7 +158,8 @@ fn push_sockets(out: &mut Vec<u8>, number: u64, first: &KeyUse) -> Result<(), Al
 
 // Puts the end of the line of a session behind `out`: whether its handshake was seen.
 fn push_handshake(out: &mut Vec<u8>, seen: bool) -> Result<(), AllocError>
-    ensures { OnOk result (out.new.items ≡ out.old.items ++ (spaced (codes "handshake" ∷ seen_text seen ∷ []) ++ 10 ∷ [])) }
+    ensures { OnOk result
+        (out.new.items ≡ out.old.items ++ (spaced (codes "handshake" ∷ seen_text seen ∷ []) ++ 10 ∷ [])) }
 {
     push_text(out, b"handshake")?;
     push_text(out, seen_word(seen))?;
@@ -199,7 +205,8 @@ fn push_protection(
 
 // Puts the front of the line of segments behind `out`: their direction and how they are protected.
 fn push_direction(out: &mut Vec<u8>, one: &KeyUse) -> Result<(), AllocError>
-    ensures { OnOk result (out.new.items ≡ out.old.items ++ (codes " " ++ spaced (usual_address_text one.now.source.address ∷ codes ">"
+    ensures { OnOk result
+        (out.new.items ≡ out.old.items ++ (codes " " ++ spaced (usual_address_text one.now.source.address ∷ codes ">"
         ∷ usual_address_text one.now.destination.address ∷ protection_text one.now.protection one.now.key_id ∷ []))) }
 {
     out.push(b' ')?;
@@ -211,7 +218,8 @@ fn push_direction(out: &mut Vec<u8>, one: &KeyUse) -> Result<(), AllocError>
 
 // Puts behind `out` how many segments they are, and when they were seen.
 fn push_seen(out: &mut Vec<u8>, one: &KeyUse) -> Result<(), AllocError>
-    ensures { OnOk result (out.new.items ≡ out.old.items ++ spaced (decimal one.now.segments ∷ codes "first" ∷ instant_text one.now.first
+    ensures { OnOk result (out.new.items ≡ out.old.items ++ spaced
+        (decimal one.now.segments ∷ codes "first" ∷ instant_text one.now.first
         ∷ codes "last" ∷ instant_text one.now.last ∷ [])) }
 {
     push_number(out, one.segments)?;
@@ -224,7 +232,8 @@ fn push_seen(out: &mut Vec<u8>, one: &KeyUse) -> Result<(), AllocError>
 // Puts the end of the line of segments behind `out`: how many they are, when they were seen, what they
 // ask for, and the last packet.
 fn push_numbers(out: &mut Vec<u8>, one: &KeyUse) -> Result<(), AllocError>
-    ensures { OnOk result (out.new.items ≡ out.old.items ++ (spaced (decimal one.now.segments ∷ codes "first" ∷ instant_text one.now.first
+    ensures { OnOk result
+        (out.new.items ≡ out.old.items ++ (spaced (decimal one.now.segments ∷ codes "first" ∷ instant_text one.now.first
         ∷ codes "last" ∷ instant_text one.now.last ∷ codes "asks" ∷ id_text one.now.asked
         ∷ codes "packet" ∷ decimal one.now.packet ∷ []) ++ 10 ∷ [])) }
 {

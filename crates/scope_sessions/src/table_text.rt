@@ -100,7 +100,8 @@ fn push_told(
     index: &SessionIndex,
     numbers: &Numbers,
 ) -> Result<(), AllocError>
-    ensures { OnOk result (out.new.items ≡ out.old.items ++ (foreign_lines index.now.uses numbers.now.foreign.items numbers.now.own.items
+    ensures { OnOk result
+        (out.new.items ≡ out.old.items ++ (foreign_lines index.now.uses numbers.now.foreign.items numbers.now.own.items
         ++ flat_map (lines_of_session index.now.uses) numbers.now.listed.items)) }
 {
     push_foreign(
@@ -123,7 +124,8 @@ pub(crate) fn push_table(
     tables: &Tables,
     index: &SessionIndex,
 ) -> Result<(), AllocError>
-    ensures { OnOk result (out.new.items ≡ out.old.items ++ sessions_text all (keys_at (table_view document.now) tables.now) index.now) }
+    ensures { OnOk result (out.new.items ≡ out.old.items ++ sessions_text all
+        (keys_at (table_view document.now) tables.now) index.now) }
 {
     let uses = index.uses();
     let segments = all_counted(uses).ok_or(AllocError)?;

@@ -23,7 +23,8 @@ fn write_counted<O: Sink>(
     counted: &Counted,
     out: &mut O,
 ) -> Result<bool, JudgingHalt>
-    ensures { WritesCounted (table_report request) (table_view document.now) counted.now (O.side out.old) (O.side out.new) result }
+    ensures { WritesCounted (table_report request) (table_view document.now) counted.now (O.side out.old)
+        (O.side out.new) result }
 {
     let tables = counted.listener.tables();
     let index = &counted.index;
@@ -75,7 +76,8 @@ pub fn write_sessions<I: Source, O: Sink>(
     input: &mut I,
     out: &mut O,
 ) -> Result<bool, JudgingHalt>
-    ensures { (given : List ℕ) × Writes (table_report request) request laps keys.now isns.now given (I.side input.old) (I.side input.new) (O.side out.old) (O.side out.new) result }
+    ensures { (given : List ℕ) × Writes (table_report request) request laps keys.now isns.now given (I.side input.old)
+        (I.side input.new) (O.side out.old) (O.side out.new) result }
 {
     let tables = match read_tables(alloc, keys) {
         Ok(tables) => tables,

@@ -42,7 +42,8 @@ pub(crate) struct Answered {
 }
 
 fn push_no_node(out: &mut Vec<u8>, address: &Address) -> Result<(), AllocError>
-    ensures { OnOk result (out.new.items ≡ out.old.items ++ line_text (codes "no node has" ∷ usual_address_text address.now ∷ [])) }
+    ensures { OnOk result (out.new.items ≡ out.old.items ++ line_text
+        (codes "no node has" ∷ usual_address_text address.now ∷ [])) }
 {
     out.extend_from_slice(b"no node has")?;
     push_host(out, address)?;
@@ -81,7 +82,8 @@ fn push_asked(
     line: &CheckLine,
 ) -> Result<(), AllocError>
     requires { AreWithin facts.now }
-    ensures { OnOk result (out.new.items ≡ out.old.items ++ lines_of_said (inquiry_by facts.now tables.now table.now) line.now) }
+    ensures { OnOk result (out.new.items ≡ out.old.items ++ lines_of_said (inquiry_by facts.now tables.now table.now)
+        line.now) }
 {
     let own = isns_at(&inquiry_with(facts, tables, table, &[]));
     let others = other_isns(alloc, facts.datagram, own, facts.told)?;
@@ -99,7 +101,8 @@ fn push_reason(
 ) -> Result<(), AllocError>
     requires { AreWithin facts.now }
     ensures { OnOk result (out.new.items ≡ out.old.items
-        ++ reason_by facts.now tables.now (find (has_address facts.now.datagram.now.destination.address) tables.now) line.now) }
+        ++ reason_by facts.now tables.now (find (has_address facts.now.datagram.now.destination.address) tables.now)
+        line.now) }
 {
     let destination = facts.datagram.destination();
     match tables.table(&destination.address) {
@@ -119,8 +122,10 @@ fn push_said_and_why<L: Ledger>(
     datagram: &Datagram<'_>,
     out: &mut Vec<u8>,
 ) -> Result<bool, AllocError>
-    ensures { (b : Behind) (number : ℕ) (bytes : List ℕ) → StandsBehind checker.old.entries told.now b → reading bytes ≡ Read datagram.now
-        → IfOk result (λ passes. SaysWhy (key_file_of question.now checker.old.tables) b question.now.with_key (record { number = number; time = time; bytes = bytes }) datagram.now out.old.items out.new.items passes) }
+    ensures { (b : Behind) (number : ℕ) (bytes : List ℕ) → StandsBehind checker.old.entries told.now b
+        → reading bytes ≡ Read datagram.now
+        → IfOk result (λ passes. SaysWhy (key_file_of question.now checker.old.tables) b question.now.with_key
+        (record { number = number; time = time; bytes = bytes }) datagram.now out.old.items out.new.items passes) }
 {
     let facts = Facts {
         document: question.document,
@@ -171,8 +176,10 @@ fn answer_segment<L: Ledger>(
     time: u64,
     datagram: &Datagram<'_>,
 ) -> Result<Answered, AllocError>
-    ensures { (b : Behind) (bytes : List ℕ) → StandsBehind checker.old.entries told.now b → reading bytes ≡ Read datagram.now
-        → IfOk result (λ a. AnswersJudged (key_file_of question.now checker.old.tables) b question.now.with_key unset (record { number = number; time = time; bytes = bytes }) a) }
+    ensures { (b : Behind) (bytes : List ℕ) → StandsBehind checker.old.entries told.now b
+        → reading bytes ≡ Read datagram.now
+        → IfOk result (λ a. AnswersJudged (key_file_of question.now checker.old.tables) b question.now.with_key unset
+        (record { number = number; time = time; bytes = bytes }) a) }
 {
     let mut text = Vec::new(alloc);
     push_segment_line(&mut text, number, time, datagram)?;
@@ -195,7 +202,8 @@ fn answer_judged<L: Ledger>(
     stored: StoredBytes<'_>,
 ) -> Result<Answered, AllocError>
     ensures { (b : Behind) → StandsBehind checker.old.entries told.now b
-        → IfOk result (λ a. AnswersJudged (key_file_of question.now checker.old.tables) b question.now.with_key unset (record { number = number; time = stored.entry.time; bytes = stored.entry.bytes.now }) a) }
+        → IfOk result (λ a. AnswersJudged (key_file_of question.now checker.old.tables) b question.now.with_key unset
+        (record { number = number; time = stored.entry.time; bytes = stored.entry.bytes.now }) a) }
 {
     match read_datagram(stored.bytes) {
         Err(fault) => answer_other(
@@ -228,7 +236,8 @@ fn answer_stored<L: Ledger>(
     stored: StoredBytes<'_>,
 ) -> Result<Answered, AllocError>
     ensures { (b : Behind) → StandsBehind checker.old.entries told.now b
-        → IfOk result (λ a. AnswersBehind (key_file_of question.now checker.old.tables) b question.now.with_key number (stored_as number (Ok stored.entry)) a) }
+        → IfOk result (λ a. AnswersBehind (key_file_of question.now checker.old.tables) b question.now.with_key number
+        (stored_as number (Ok stored.entry)) a) }
 {
     let found = mended(alloc, stored.bytes)?;
     match found {
@@ -261,7 +270,8 @@ pub(crate) fn answer_packet<L: Ledger>(
     stored: Result<StoredBytes<'_>, PassedOver>,
 ) -> Result<Answered, AllocError>
     ensures { (b : Behind) → StandsBehind checker.old.entries told.now b
-        → IfOk result (λ a. AnswersBehind (key_file_of question.now checker.old.tables) b question.now.with_key number (stored_as number stored.entry) a) }
+        → IfOk result (λ a. AnswersBehind (key_file_of question.now checker.old.tables) b question.now.with_key number
+        (stored_as number stored.entry) a) }
 {
     match stored {
         Err(why) => answer_other(alloc, number, why),

@@ -51,7 +51,8 @@ fn answer_behind<L: Ledger, I: Source>(
 ) -> Result<Answered, JudgingHalt>
     requires reader { reader.old ≡ new_reading }
     requires stands { StandsFor checker.old.entries (given_after [] told.old.items) }
-    ensures { (bytes : List ℕ) × Reads (key_file_of question.now checker.old.tables) (asked_of question.now told.old.items number) bytes (I.side input.old) (I.side input.new) result }
+    ensures { (bytes : List ℕ) × Reads (key_file_of question.now checker.old.tables)
+        (asked_of question.now told.old.items number) bytes (I.side input.old) (I.side input.new) result }
 {
     let mut count: u64 = 0;
     'parts: loop {
@@ -103,7 +104,8 @@ fn answer_counted<L: Ledger, I: Source>(
     requires name { blank.name ≡ L.name }
     requires parts { blank.parts ≡ L.parts }
     requires part { 0 < blank.parts }
-    ensures { (bytes : List ℕ) × Reads (key_file_of question.now tables) (asked_of question.now given.now number) bytes (I.side input.old) (I.side input.new) result }
+    ensures { (bytes : List ℕ) × Reads (key_file_of question.now tables) (asked_of question.now given.now number) bytes
+        (I.side input.old) (I.side input.new) result }
 {
     let mut steps = Steps::<L>::new(blank);
     let mut reader = match CaptureReader::new(alloc) {
@@ -142,7 +144,8 @@ pub(crate) fn answer_capture<I: Source>(
     number: u64,
     input: &mut I,
 ) -> Result<Answered, JudgingHalt>
-    ensures { (bytes : List ℕ) × Reads (key_file_of question.now tables) (asked_of question.now given.now number) bytes (I.side input.old) (I.side input.new) result }
+    ensures { (bytes : List ℕ) × Reads (key_file_of question.now tables) (asked_of question.now given.now number) bytes
+        (I.side input.old) (I.side input.new) result }
 {
     answer_counted::<Brand, I>(alloc, tables, given, question, number, input, Blank::new(1))
 }

@@ -22,7 +22,8 @@ fn hear_judged<L: Ledger>(
     stored: StoredBytes<'_>,
 ) -> Result<(), AllocError>
     ensures stands { (b : Behind) (number : ℕ) → StandsBehind checker.old.entries told.old.items b
-        → OnOk result (StandsBehind checker.new.entries told.new.items (behind_one checker.old.tables b (stored_as number (Ok stored.entry)))) }
+        → OnOk result (StandsBehind checker.new.entries told.new.items
+        (behind_one checker.old.tables b (stored_as number (Ok stored.entry)))) }
     ensures tables { checker.new.tables ≡ checker.old.tables }
 {
     push_told(told, stored.bytes)?;
@@ -39,7 +40,8 @@ fn hear_stored<L: Ledger>(
     stored: StoredBytes<'_>,
 ) -> Result<(), AllocError>
     ensures stands { (b : Behind) (number : ℕ) → StandsBehind checker.old.entries told.old.items b
-        → OnOk result (StandsBehind checker.new.entries told.new.items (behind_one checker.old.tables b (judged_of (stored_as number (Ok stored.entry))))) }
+        → OnOk result (StandsBehind checker.new.entries told.new.items
+        (behind_one checker.old.tables b (judged_of (stored_as number (Ok stored.entry))))) }
     ensures tables { checker.new.tables ≡ checker.old.tables }
 {
     let found = mended(alloc, stored.bytes)?;
@@ -68,7 +70,8 @@ pub(crate) fn hear_packet<L: Ledger>(
     stored: Result<StoredBytes<'_>, PassedOver>,
 ) -> Result<(), AllocError>
     ensures stands { (b : Behind) (number : ℕ) → StandsBehind checker.old.entries told.old.items b
-        → OnOk result (StandsBehind checker.new.entries told.new.items (behind_one checker.old.tables b (judged_of (stored_as number stored.entry)))) }
+        → OnOk result (StandsBehind checker.new.entries told.new.items
+        (behind_one checker.old.tables b (judged_of (stored_as number stored.entry)))) }
     ensures tables { checker.new.tables ≡ checker.old.tables }
 {
     match stored {

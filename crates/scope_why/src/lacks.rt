@@ -20,7 +20,8 @@ fn push_lack(out: &mut Vec<u8>, good: bool, text: &[u8]) -> Result<(), AllocErro
 }
 
 fn push_begins(out: &mut Vec<u8>, first: u64, now: u64) -> Result<(), AllocError>
-    ensures { OnOk result (out.new.items ≡ out.old.items ++ lack (nat_le first now) (codes "begins at " ++ instant_text first)) }
+    ensures { OnOk result (out.new.items ≡ out.old.items ++ lack (nat_le first now)
+        (codes "begins at " ++ instant_text first)) }
 {
     if first <= now {
         return Ok(());
@@ -30,7 +31,8 @@ fn push_begins(out: &mut Vec<u8>, first: u64, now: u64) -> Result<(), AllocError
 }
 
 fn push_ended(out: &mut Vec<u8>, last: u64, now: u64) -> Result<(), AllocError>
-    ensures { OnOk result (out.new.items ≡ out.old.items ++ lack (nat_le now last) (codes "ended at " ++ instant_text last)) }
+    ensures { OnOk result (out.new.items ≡ out.old.items ++ lack (nat_le now last)
+        (codes "ended at " ++ instant_text last)) }
 {
     if now <= last {
         return Ok(());
@@ -73,7 +75,8 @@ fn push_id(out: &mut Vec<u8>, id: u8) -> Result<(), AllocError>
 }
 
 fn push_id_lack(out: &mut Vec<u8>, recv_id: u8, id: u8) -> Result<(), AllocError>
-    ensures { OnOk result (out.new.items ≡ out.old.items ++ lack (recv_id == id) (codes "for KeyID " ++ decimal recv_id)) }
+    ensures { OnOk result (out.new.items ≡ out.old.items ++ lack (recv_id == id)
+        (codes "for KeyID " ++ decimal recv_id)) }
 {
     if recv_id == id {
         return Ok(());

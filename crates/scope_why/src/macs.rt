@@ -1,7 +1,8 @@
 //! What is told of the MAC of a segment: its length, how it is made, and what would make it right.
 ghost use Rattle.std.specs.Prelude.{◌≡◌, ◌++◌, OnOk, length};
 ghost use Rattle.book_segments.specs.Options.{One, find_ao};
-ghost use Rattle.book_why_texts.specs.Inquiries.{changes_lines, if_found, length_line, lengths_line, passing_values, row_taking_line, values_lines, wrong_mac_lines};
+ghost use Rattle.book_why_texts.specs.Inquiries.{changes_lines, if_found, length_line, lengths_line, passing_values};
+ghost use Rattle.book_why_texts.specs.Inquiries.{row_taking_line, values_lines, wrong_mac_lines};
 ghost use Rattle.book_why_texts.specs.MacTexts.{mac_lines};
 ghost use Rattle.book_why_texts.specs.Sights.{ao_at, row_at, suspect_at};
 ghost use Rattle.tcp_options.specs.Views.{view_ao};
@@ -46,7 +47,8 @@ fn push_lengths(
 }
 
 fn push_lengths_if(out: &mut Vec<u8>, inquiry: &Inquiry<'_>) -> Result<(), AllocError>
-    ensures { OnOk result (out.new.items ≡ out.old.items ++ if_found (lengths_line (inquiry_of inquiry.now)) (ao_at (sight_of inquiry.now))) }
+    ensures { OnOk result (out.new.items ≡ out.old.items ++ if_found (lengths_line (inquiry_of inquiry.now))
+        (ao_at (sight_of inquiry.now))) }
 {
     match ao_at(inquiry) {
         None => Ok(()),
@@ -62,7 +64,8 @@ fn push_changes(
     suspect: &Suspect<'_>,
 ) -> Result<(), AllocError>
     requires { find_ao suspect.now.datagram.now.area ≡ One (view_ao suspect.now.ao) }
-    ensures { OnOk result (out.new.items ≡ out.old.items ++ changes_lines (inquiry_of inquiry.now) (suspect_view suspect.now)) }
+    ensures { OnOk result (out.new.items ≡ out.old.items ++ changes_lines (inquiry_of inquiry.now)
+        (suspect_view suspect.now)) }
 {
     let both = BothTables {
         receiver: inquiry.table,
@@ -77,7 +80,8 @@ fn push_changes_if(
     inquiry: &Inquiry<'_>,
 ) -> Result<(), AllocError>
     requires { IsWithin inquiry.now }
-    ensures { OnOk result (out.new.items ≡ out.old.items ++ if_found (changes_lines (inquiry_of inquiry.now)) (suspect_at (sight_of inquiry.now))) }
+    ensures { OnOk result (out.new.items ≡ out.old.items ++ if_found (changes_lines (inquiry_of inquiry.now))
+        (suspect_at (sight_of inquiry.now))) }
 {
     match suspect_at(inquiry) {
         None => Ok(()),
@@ -108,7 +112,8 @@ fn push_wrong_mac(
     suspect: &Suspect<'_>,
 ) -> Result<(), AllocError>
     requires { find_ao suspect.now.datagram.now.area ≡ One (view_ao suspect.now.ao) }
-    ensures { OnOk result (out.new.items ≡ out.old.items ++ wrong_mac_lines (inquiry_of inquiry.now) (suspect_view suspect.now)) }
+    ensures { OnOk result (out.new.items ≡ out.old.items ++ wrong_mac_lines (inquiry_of inquiry.now)
+        (suspect_view suspect.now)) }
 {
     push_mac_lines(alloc, out, inquiry.with_key, suspect)?;
     push_changes(alloc, out, inquiry, suspect)
@@ -120,7 +125,8 @@ fn push_wrong_mac_if(
     inquiry: &Inquiry<'_>,
 ) -> Result<(), AllocError>
     requires { IsWithin inquiry.now }
-    ensures { OnOk result (out.new.items ≡ out.old.items ++ if_found (wrong_mac_lines (inquiry_of inquiry.now)) (suspect_at (sight_of inquiry.now))) }
+    ensures { OnOk result (out.new.items ≡ out.old.items ++ if_found (wrong_mac_lines (inquiry_of inquiry.now))
+        (suspect_at (sight_of inquiry.now))) }
 {
     match suspect_at(inquiry) {
         None => Ok(()),
@@ -135,7 +141,9 @@ pub(crate) fn push_bad_mac(
     inquiry: &Inquiry<'_>,
 ) -> Result<(), AllocError>
     requires { IsWithin inquiry.now }
-    ensures { OnOk result (out.new.items ≡ out.old.items ++ (values_lines (inquiry_of inquiry.now) ++ if_found (wrong_mac_lines (inquiry_of inquiry.now)) (suspect_at (sight_of inquiry.now)))) }
+    ensures { OnOk result
+        (out.new.items ≡ out.old.items ++ (values_lines (inquiry_of inquiry.now)
+        ++ if_found (wrong_mac_lines (inquiry_of inquiry.now)) (suspect_at (sight_of inquiry.now)))) }
 {
     push_values(out, inquiry)?;
     push_wrong_mac_if(alloc, out, inquiry)
@@ -147,7 +155,8 @@ fn push_right_mac_if(
     inquiry: &Inquiry<'_>,
 ) -> Result<(), AllocError>
     requires { IsWithin inquiry.now }
-    ensures { OnOk result (out.new.items ≡ out.old.items ++ if_found (mac_lines inquiry.now.with_key) (suspect_at (sight_of inquiry.now))) }
+    ensures { OnOk result (out.new.items ≡ out.old.items ++ if_found (mac_lines inquiry.now.with_key)
+        (suspect_at (sight_of inquiry.now))) }
 {
     match suspect_at(inquiry) {
         None => Ok(()),

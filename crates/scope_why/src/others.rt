@@ -3,7 +3,9 @@ ghost use Rattle.std.specs.Prelude.{◌≡◌, ◌++◌, ◌&&◌, IfOk, OnOk, S
 ghost use Rattle.std.specs.List.{list_any};
 ghost use Rattle.book_segments.specs.Segments.{Read, reading};
 ghost use Rattle.book_segments.specs.Sockets.{same_socket};
-ghost use Rattle.book_why_texts.specs.OtherIsns.{are_own, destination_isn_by, isns_seen_from, may_tell, other_isns, same_isn_pair, told_at, told_by_reading, numbers_of_syn, with_destination, with_isn_pair, with_isn_pairs};
+ghost use Rattle.book_why_texts.specs.OtherIsns.{are_own, destination_isn_by, isns_seen_from, may_tell, other_isns};
+ghost use Rattle.book_why_texts.specs.OtherIsns.{same_isn_pair, told_at, told_by_reading, numbers_of_syn};
+ghost use Rattle.book_why_texts.specs.OtherIsns.{with_destination, with_isn_pair, with_isn_pairs};
 
 use crate::sight::isns_of_syn;
 use ao_base::is_same_socket;
@@ -131,7 +133,8 @@ fn push_told_at(
     own: Option<IsnPair>,
     given: &GivenIsns,
 ) -> Result<(), AllocError>
-    ensures { OnOk result (pairs.new.items ≡ with_isn_pairs datagram.now own pairs.old.items (told_at datagram.now given.now)) }
+    ensures { OnOk result (pairs.new.items ≡ with_isn_pairs datagram.now own pairs.old.items
+        (told_at datagram.now given.now)) }
 {
     push_pair(pairs, own, seen_from(datagram, given))?;
     if !may_tell(datagram, given) {

@@ -1,6 +1,8 @@
 //! What decided what is said of a segment.
 ghost use Rattle.std.specs.Prelude.{◌≡◌, ◌++◌, ◌∷◌, OnOk, codes, decimal};
-ghost use Rattle.book_why_texts.specs.Inquiries.{if_found, lacking_lines, limit_line, no_handshake_line, node_line, options_line, passing_values, range_line, row_taking_line, values_lines};
+ghost use Rattle.book_why_texts.specs.Inquiries.{if_found, lacking_lines, limit_line, no_handshake_line, node_line};
+ghost use Rattle.book_why_texts.specs.Inquiries.{options_line, passing_values, range_line, row_taking_line};
+ghost use Rattle.book_why_texts.specs.Inquiries.{values_lines};
 ghost use Rattle.book_why_texts.specs.Sights.{ao_at, number_at};
 ghost use Rattle.tcp_options.specs.Views.{view_ao};
 ghost use Rattle.scope_why.specs.Finding.{IsWithin, lines_of_said, lines_of_verdict};
@@ -64,7 +66,8 @@ fn push_lacking(
 }
 
 fn push_lacking_if(out: &mut Vec<u8>, inquiry: &Inquiry<'_>) -> Result<(), AllocError>
-    ensures { OnOk result (out.new.items ≡ out.old.items ++ if_found (lacking_lines (inquiry_of inquiry.now)) (ao_at (sight_of inquiry.now))) }
+    ensures { OnOk result (out.new.items ≡ out.old.items ++ if_found (lacking_lines (inquiry_of inquiry.now))
+        (ao_at (sight_of inquiry.now))) }
 {
     match ao_at(inquiry) {
         None => Ok(()),
@@ -74,7 +77,9 @@ fn push_lacking_if(out: &mut Vec<u8>, inquiry: &Inquiry<'_>) -> Result<(), Alloc
 
 // No row takes a segment.
 fn push_untaken(out: &mut Vec<u8>, inquiry: &Inquiry<'_>) -> Result<(), AllocError>
-    ensures { OnOk result (out.new.items ≡ out.old.items ++ (node_line inquiry.now.table.now ++ if_found (lacking_lines (inquiry_of inquiry.now)) (ao_at (sight_of inquiry.now)))) }
+    ensures { OnOk result
+        (out.new.items ≡ out.old.items ++ (node_line inquiry.now.table.now
+        ++ if_found (lacking_lines (inquiry_of inquiry.now)) (ao_at (sight_of inquiry.now)))) }
 {
     push_node_line(out, inquiry.table)?;
     push_lacking_if(out, inquiry)
@@ -82,7 +87,8 @@ fn push_untaken(out: &mut Vec<u8>, inquiry: &Inquiry<'_>) -> Result<(), AllocErr
 
 // The initial sequence numbers aren't known.
 fn push_no_context(out: &mut Vec<u8>, inquiry: &Inquiry<'_>) -> Result<(), AllocError>
-    ensures { OnOk result (out.new.items ≡ out.old.items ++ (row_taking_line (inquiry_of inquiry.now) ++ no_handshake_line)) }
+    ensures { OnOk result
+        (out.new.items ≡ out.old.items ++ (row_taking_line (inquiry_of inquiry.now) ++ no_handshake_line)) }
 {
     push_row_taking(out, inquiry)?;
     out.extend_from_slice(b"no handshake of these sockets passed before it\n")
@@ -111,7 +117,9 @@ fn push_range(out: &mut Vec<u8>, number: Option<u64>) -> Result<(), AllocError>
 // The number of a segment is out of range.
 fn push_out_of_range(out: &mut Vec<u8>, inquiry: &Inquiry<'_>) -> Result<(), AllocError>
     requires { IsWithin inquiry.now }
-    ensures { OnOk result (out.new.items ≡ out.old.items ++ (values_lines (inquiry_of inquiry.now) ++ range_line (number_at (sight_of inquiry.now)))) }
+    ensures { OnOk result
+        (out.new.items ≡ out.old.items ++ (values_lines (inquiry_of inquiry.now)
+        ++ range_line (number_at (sight_of inquiry.now)))) }
 {
     push_values(out, inquiry)?;
     push_range(out, number_at(inquiry))
@@ -143,7 +151,9 @@ fn push_verdict(
 // A segment passes, and no room is left for its connection.
 fn push_full(alloc: Global, out: &mut Vec<u8>, inquiry: &Inquiry<'_>) -> Result<(), AllocError>
     requires { IsWithin inquiry.now }
-    ensures { OnOk result (out.new.items ≡ out.old.items ++ (codes "connections held " ++ (decimal 65536 ++ (10 ∷ passing_values (inquiry_of inquiry.now))))) }
+    ensures { OnOk result
+        (out.new.items ≡ out.old.items ++ (codes "connections held "
+        ++ (decimal 65536 ++ (10 ∷ passing_values (inquiry_of inquiry.now))))) }
 {
     out.extend_from_slice(b"connections held ")?;
     push_decimal(out, MOST_CONNECTIONS)?;

@@ -6,7 +6,8 @@ ghost use Rattle.book_lines.specs.Texts.{spaced};
 ghost use Rattle.book_scope_plan.specs.AdminNames.{admin_name};
 ghost use Rattle.book_scope_plan.specs.FindingTexts.{admin_text};
 ghost use Rattle.book_why.specs.ChangeTexts.{options_text};
-ghost use Rattle.book_why_texts.specs.Lacks.{lacks, lifetime_texts, row_and_lacks, row_shown, row_shown_line, rows_and_lacks};
+ghost use Rattle.book_why_texts.specs.Lacks.{lacks, lifetime_texts, row_and_lacks, row_shown, row_shown_line};
+ghost use Rattle.book_why_texts.specs.Lacks.{rows_and_lacks};
 
 use crate::lacks::push_lacks;
 use book_base::Pair;
@@ -25,7 +26,8 @@ fn push_name(
     number: u8,
 ) -> Result<(), AllocError>
     ensures { OnOk result (out.new.items ≡ out.old.items
-        ++ spaced (decimal number ∷ codes "of" ∷ (name.now ++ admin_text (admin_name (table_view document.now) name.now number)) ∷ [])) }
+        ++ spaced (decimal number ∷ codes "of"
+        ∷ (name.now ++ admin_text (admin_name (table_view document.now) name.now number)) ∷ [])) }
 {
     push_number(out, u64::from(number))?;
     push_text(out, b"of")?;
@@ -36,7 +38,8 @@ fn push_name(
 // The KeyIDs of a row, its algorithm, and whether its MAC covers the options.
 fn push_key(out: &mut Vec<u8>, row: &Row) -> Result<(), AllocError>
     ensures { OnOk result (out.new.items ≡ out.old.items ++ spaced (codes "send-id" ∷ decimal row.now.send_id
-        ∷ codes "recv-id" ∷ decimal row.now.recv_id ∷ name_of row.now.algorithm ∷ options_text row.now.with_options ∷ [])) }
+        ∷ codes "recv-id" ∷ decimal row.now.recv_id ∷ name_of row.now.algorithm ∷ options_text row.now.with_options
+        ∷ [])) }
 {
     push_field(out, b"send-id", u64::from(row.send_id()))?;
     push_field(out, b"recv-id", u64::from(row.recv_id()))?;
@@ -56,7 +59,8 @@ fn push_lifetime(out: &mut Vec<u8>, lifetime: Lifetime) -> Result<(), AllocError
 // When a row is for sending and for accepting.
 fn push_lifetimes(out: &mut Vec<u8>, row: &Row) -> Result<(), AllocError>
     ensures { OnOk result (out.new.items ≡ out.old.items
-        ++ spaced (codes "sends" ∷ lifetime_texts row.now.sending (codes "accepts" ∷ lifetime_texts row.now.accepting []))) }
+        ++ spaced (codes "sends" ∷ lifetime_texts row.now.sending
+        (codes "accepts" ∷ lifetime_texts row.now.accepting []))) }
 {
     push_text(out, b"sends")?;
     push_lifetime(out, row.sending())?;
@@ -72,7 +76,8 @@ fn push_row(
     number: u8,
     row: &Row,
 ) -> Result<(), AllocError>
-    ensures { OnOk result (out.new.items ≡ out.old.items ++ row_shown (table_view document.now) table.now (record { number = number; row = row.now })) }
+    ensures { OnOk result (out.new.items ≡ out.old.items ++ row_shown (table_view document.now) table.now
+        (record { number = number; row = row.now })) }
 {
     out.extend_from_slice(b"row")?;
     push_name(out, document, table.name(), number)?;
@@ -88,7 +93,8 @@ pub(crate) fn push_row_line(
     number: u8,
     row: &Row,
 ) -> Result<(), AllocError>
-    ensures { OnOk result (out.new.items ≡ out.old.items ++ row_shown_line (table_view document.now) table.now (record { number = number; row = row.now })) }
+    ensures { OnOk result (out.new.items ≡ out.old.items ++ row_shown_line (table_view document.now) table.now
+        (record { number = number; row = row.now })) }
 {
     push_row(out, document, table, number, row)?;
     push_newline(out)
@@ -106,7 +112,8 @@ fn push_row_and_lacks(
     now: u64,
 ) -> Result<(), AllocError>
     ensures { OnOk result (out.new.items ≡ out.old.items
-        ++ row_and_lacks (table_view document.now) table.now (record { number = number; row = row.now }) (lacks pair.now id now row.now)) }
+        ++ row_and_lacks (table_view document.now) table.now (record { number = number; row = row.now })
+        (lacks pair.now id now row.now)) }
 {
     push_row(out, document, table, number, row)?;
     push_lacks(out, row, pair, id, now)?;

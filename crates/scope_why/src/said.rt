@@ -24,7 +24,9 @@ fn push_end(out: &mut Vec<u8>, checksum: Checksum) -> Result<(), AllocError>
 }
 
 fn push_pass(out: &mut Vec<u8>, passed: &Passed, checksum: Checksum) -> Result<(), AllocError>
-    ensures { OnOk result (out.new.items ≡ out.old.items ++ line_text (codes "pass" ∷ codes "row" ∷ decimal passed.now.row ∷ codes "number" ∷ decimal passed.now.number ∷ checksum_texts checksum)) }
+    ensures { OnOk result (out.new.items ≡ out.old.items ++ line_text
+        (codes "pass" ∷ codes "row" ∷ decimal passed.now.row ∷ codes "number" ∷ decimal passed.now.number
+        ∷ checksum_texts checksum)) }
 {
     out.extend_from_slice(b"pass row ")?;
     push_decimal(out, u64::from(passed.row))?;
@@ -34,7 +36,8 @@ fn push_pass(out: &mut Vec<u8>, passed: &Passed, checksum: Checksum) -> Result<(
 }
 
 fn push_refused(out: &mut Vec<u8>, verdict: &Verdict, checksum: Checksum) -> Result<(), AllocError>
-    ensures { OnOk result (out.new.items ≡ out.old.items ++ line_text (codes "refused" ∷ verdict_text verdict.now ∷ checksum_texts checksum)) }
+    ensures { OnOk result (out.new.items ≡ out.old.items ++ line_text
+        (codes "refused" ∷ verdict_text verdict.now ∷ checksum_texts checksum)) }
 {
     out.extend_from_slice(b"refused ")?;
     out.extend_from_slice(verdict_word(*verdict))?;
@@ -42,7 +45,8 @@ fn push_refused(out: &mut Vec<u8>, verdict: &Verdict, checksum: Checksum) -> Res
 }
 
 fn push_verdict(out: &mut Vec<u8>, verdict: &Verdict, checksum: Checksum) -> Result<(), AllocError>
-    ensures { OnOk result (out.new.items ≡ out.old.items ++ line_text (verdict_texts verdict.now ++ checksum_texts checksum)) }
+    ensures { OnOk result (out.new.items ≡ out.old.items ++ line_text
+        (verdict_texts verdict.now ++ checksum_texts checksum)) }
 {
     match verdict {
         Verdict::Pass(passed) => push_pass(out, passed, checksum),
@@ -86,7 +90,8 @@ fn push_answer(out: &mut Vec<u8>, line: &CheckLine) -> Result<(), AllocError>
 
 /// Puts the line of what is said of a segment behind `out`. Where memory runs out a part of it may stand there.
 pub(crate) fn push_said(out: &mut Vec<u8>, line: &CheckLine) -> Result<(), AllocError>
-    ensures { (s : Saying) → Says line.now s → OnOk result (out.new.items ≡ out.old.items ++ line_text (saying_texts s)) }
+    ensures { (s : Saying) → Says line.now s
+        → OnOk result (out.new.items ≡ out.old.items ++ line_text (saying_texts s)) }
 {
     push_answer(out, line)
 }

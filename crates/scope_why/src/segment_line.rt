@@ -6,7 +6,8 @@ ghost use Rattle.book_scope_texts.specs.Addresses.{usual_address_text};
 ghost use Rattle.book_scope_texts.specs.Instants.{instant_text};
 ghost use Rattle.book_segments.specs.Options.{find_ao};
 ghost use Rattle.book_sessions.specs.OutcomeTexts.{passed_text};
-ghost use Rattle.book_why_texts.specs.Answers.{hex_or_hyphen, no_packet_line, no_segment_line, option_texts_of, segment_line};
+ghost use Rattle.book_why_texts.specs.Answers.{hex_or_hyphen, no_packet_line, no_segment_line, option_texts_of};
+ghost use Rattle.book_why_texts.specs.Answers.{segment_line};
 ghost use Rattle.tcp_options.specs.Views.{view_ao, view_found};
 
 use ao_base::{push_decimal, push_hex};
@@ -30,7 +31,8 @@ fn push_bytes(out: &mut Vec<u8>, bytes: &[u8]) -> Result<(), AllocError>
 
 // The KeyID, the RNextKeyID and the MAC of an option.
 fn push_option(out: &mut Vec<u8>, ao: AoOption<'_>) -> Result<(), AllocError>
-    ensures { OnOk result (out.new.items ≡ out.old.items ++ spaced (codes "key" ∷ decimal ao.entry.key_id ∷ codes "asks" ∷ decimal ao.entry.rnext
+    ensures { OnOk result (out.new.items ≡ out.old.items ++ spaced
+        (codes "key" ∷ decimal ao.entry.key_id ∷ codes "asks" ∷ decimal ao.entry.rnext
         ∷ codes "mac" ∷ hex_or_hyphen ao.entry.mac.now ∷ [])) }
 {
     push_field(out, b"key", u64::from(ao.key_id))?;
@@ -53,7 +55,8 @@ fn push_found(out: &mut Vec<u8>, found: AoFound<'_>) -> Result<(), AllocError>
 
 // Puts the address and the port behind `out`, with a space in front of each.
 fn push_end(out: &mut Vec<u8>, socket: &Socket) -> Result<(), AllocError>
-    ensures { OnOk result (out.new.items ≡ out.old.items ++ spaced (usual_address_text socket.now.address ∷ decimal socket.now.port ∷ [])) }
+    ensures { OnOk result (out.new.items ≡ out.old.items ++ spaced
+        (usual_address_text socket.now.address ∷ decimal socket.now.port ∷ [])) }
 {
     push_host(out, &socket.address)?;
     push_number(out, u64::from(socket.port))
@@ -61,7 +64,8 @@ fn push_end(out: &mut Vec<u8>, socket: &Socket) -> Result<(), AllocError>
 
 // The sockets of a segment.
 fn push_ends(out: &mut Vec<u8>, source: &Socket, destination: &Socket) -> Result<(), AllocError>
-    ensures { OnOk result (out.new.items ≡ out.old.items ++ spaced (usual_address_text source.now.address ∷ decimal source.now.port
+    ensures { OnOk result (out.new.items ≡ out.old.items ++ spaced
+        (usual_address_text source.now.address ∷ decimal source.now.port
         ∷ codes ">" ∷ usual_address_text destination.now.address ∷ decimal destination.now.port ∷ [])) }
 {
     push_end(out, source)?;
@@ -71,7 +75,9 @@ fn push_ends(out: &mut Vec<u8>, source: &Socket, destination: &Socket) -> Result
 
 // The number of a packet, and when it was seen.
 fn push_seen(out: &mut Vec<u8>, number: u64, time: u64) -> Result<(), AllocError>
-    ensures { OnOk result (out.new.items ≡ out.old.items ++ (codes "packet" ++ spaced (decimal number ∷ codes "at" ∷ instant_text time ∷ []))) }
+    ensures { OnOk result
+        (out.new.items ≡ out.old.items
+        ++ (codes "packet" ++ spaced (decimal number ∷ codes "at" ∷ instant_text time ∷ []))) }
 {
     out.extend_from_slice(b"packet")?;
     push_number(out, number)?;
@@ -81,7 +87,9 @@ fn push_seen(out: &mut Vec<u8>, number: u64, time: u64) -> Result<(), AllocError
 
 // The fields of a segment.
 fn push_fields(out: &mut Vec<u8>, datagram: &Datagram<'_>) -> Result<(), AllocError>
-    ensures { OnOk result (out.new.items ≡ out.old.items ++ (spaced (number_texts datagram.now []) ++ spaced (option_texts_of (find_ao datagram.now.area)))) }
+    ensures { OnOk result
+        (out.new.items ≡ out.old.items ++ (spaced (number_texts datagram.now [])
+        ++ spaced (option_texts_of (find_ao datagram.now.area)))) }
 {
     push_numbers(out, datagram)?;
     push_found(out, datagram.options().find_ao())
@@ -95,7 +103,9 @@ pub(crate) fn push_segment_line(
     time: u64,
     datagram: &Datagram<'_>,
 ) -> Result<(), AllocError>
-    ensures { (bytes : List ℕ) → OnOk result (out.new.items ≡ out.old.items ++ segment_line (record { number = number; time = time; bytes = bytes }) datagram.now) }
+    ensures { (bytes : List ℕ)
+        → OnOk result (out.new.items ≡ out.old.items ++ segment_line
+        (record { number = number; time = time; bytes = bytes }) datagram.now) }
 {
     push_seen(out, number, time)?;
     push_ends(out, &datagram.source(), &datagram.destination())?;

@@ -51,7 +51,8 @@ pub fn write_why<I: Source, O: Sink>(
     input: &mut I,
     out: &mut O,
 ) -> Result<bool, JudgingHalt>
-    ensures { (given : List ℕ) × Writes request keys.now isns.now given (I.side input.old) (I.side input.new) (O.side out.old) (O.side out.new) result }
+    ensures { (given : List ℕ) × Writes request keys.now isns.now given (I.side input.old) (I.side input.new)
+        (O.side out.old) (O.side out.new) result }
 {
     let file = match read_key_file(alloc, keys) {
         Ok(file) => file,
