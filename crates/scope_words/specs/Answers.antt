@@ -1,9 +1,9 @@
 -- What an answer has of what a command line says: each field the text of its own name (own).
 use Rattle.std.specs.Prelude.{◌≡◌, ℕ, Bool, List, [], codes, Option, Some, None, option_map}
-use Rattle.scope_words.specs.declared.asked.Asked.{Asked}
-use Rattle.scope_words.specs.declared.asked.Asked.TheVariants as asked
-use Rattle.scope_words.specs.declared.asked.PlanAsked.{PlanAsked}
-use Rattle.scope_words.specs.declared.asked.SessionsAsked.{SessionsAsked}
+use Rattle.scope_run.specs.declared.asked.Asked.{Asked}
+use Rattle.scope_run.specs.declared.asked.Asked.TheVariants as asked
+use Rattle.scope_run.specs.declared.asked.PlanAsked.{PlanAsked}
+use Rattle.scope_run.specs.declared.asked.SessionsAsked.{SessionsAsked}
 use Rattle.scope_words.specs.declared.line.CommandLine.{CommandLine}
 use Rattle.scope_words.specs.declared.line.CommandLine.TheVariants as line
 use Rattle.scope_words.specs.declared.line.Files.{Files}

@@ -34,17 +34,17 @@ abbrev pub behind_equals : List ℕ → Option (List ℕ)
 behind_equals text =
     if equals_at text == length text then None else Some (drop (equals_at text + 1) text)
 
--- what stands behind the letter of a short option (own)
+-- the value of a short option: what stands behind its letter, without an `=` in front (own)
 abbrev pub behind_letter : List ℕ → Option (List ℕ)
 behind_letter [] = None
 behind_letter (c ∷ []) = None
 behind_letter (c ∷ d ∷ []) = None
-behind_letter (c ∷ d ∷ e ∷ rest) = Some (e ∷ rest)
+behind_letter (c ∷ d ∷ e ∷ rest) = if e == 61 then Some rest else Some (e ∷ rest)
 
 -- the name of an option, `--NAME` or `-N`, of the word in which it stands (own)
 abbrev pub head_of : List ℕ → List ℕ
 head_of text = if is_long text then before_equals text else take 2 text
 
--- the value that stands in the same word: `--NAME=VALUE` or `-NVALUE` (own)
+-- the value in the same word: `--NAME=VALUE`, `-NVALUE` or `-N=VALUE` (own)
 abbrev pub value_of : List ℕ → Option (List ℕ)
 value_of text = if is_long text then behind_equals text else behind_letter text

@@ -1,6 +1,7 @@
 //! The parts of a word of the command line.
 ghost use Rattle.std.specs.Prelude.{◌≡◌, ◌≤◌, length, option_map};
-ghost use Rattle.scope_words.specs.Texts.{asks_help, behind_equals, equals_at, head_of, is_dashed, is_long, value_of};
+ghost use Rattle.scope_words.specs.Texts.{asks_help, behind_equals, behind_letter, equals_at};
+ghost use Rattle.scope_words.specs.Texts.{head_of, is_dashed, is_long, value_of};
 
 /// Whether a text begins with a hyphen, and is more than that.
 pub(crate) fn is_dashed(text: &[u8]) -> bool
@@ -54,17 +55,25 @@ fn behind_equals(text: &[u8]) -> Option<&[u8]>
     }
 }
 
-/// The value that an option has within its word: behind the `=`, or of a short option behind its letter.
+/// The value of a short option: what stands behind its letter, without an `=` in front.
+fn behind_letter(text: &[u8]) -> Option<&[u8]>
+    ensures { option_map (λ v. v.now) result ≡ behind_letter text.now }
+{
+    match text {
+        [_, _, b'=', value @ ..] => Some(value),
+        [_, _, _, ..] => Some(&text[2..]),
+        _ => None,
+    }
+}
+
+/// The value that an option has within its word.
 pub(crate) fn value_of(text: &[u8]) -> Option<&[u8]>
     ensures { option_map (λ v. v.now) result ≡ value_of text.now }
 {
     if is_long(text) {
-        return behind_equals(text);
-    }
-    match text {
-        [_, _] => None,
-        [_, _, value @ ..] => Some(value),
-        _ => None,
+        behind_equals(text)
+    } else {
+        behind_letter(text)
     }
 }
 

@@ -2,10 +2,10 @@
 //! them, and why one is refused. Its contract says what is answered to any words. The pages of help are texts here.
 #![tactic(auto)]
 
-mod asked;
 mod cut;
 mod entries;
 mod line;
+mod pages;
 mod reading;
 mod request;
 mod step;
@@ -13,7 +13,7 @@ mod tables;
 mod usage;
 mod word;
 
-pub use asked::{Asked, CheckAsked, DrawAsked, EchoAsked, PacketAsked, PlanAsked, SessionsAsked};
 pub use line::{CommandLine, Files, Request, parse};
+pub use pages::help_page;
 pub use usage::{Cause, Usage, push_usage};
 pub use word::{Page, Word};

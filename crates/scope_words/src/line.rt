@@ -5,13 +5,13 @@ ghost use Rattle.scope_words.specs.Lines.{command_line_of, helped, meant_by, unk
 ghost use Rattle.scope_words.specs.Meanings.{ending_now};
 ghost use Rattle.scope_words.specs.Readings.{reading, start};
 
-use crate::asked::Asked;
 use crate::cut::{asks_help, is_dashed};
 use crate::reading::Reading;
-use crate::request::{files_of, asked_of};
+use crate::request::{asked_of, files_of};
 use crate::step::Ending;
 use crate::usage::{Cause, Usage};
 use crate::word::{Page, Word, word_named};
+use scope_run::Asked;
 use std::alloc::{AllocError, Global};
 
 /// The files that the words name.
@@ -96,7 +96,8 @@ fn of_word<'w>(
     word: Word,
     words: &'w [String],
 ) -> Result<CommandLine<'w>, AllocError>
-    ensures { IfOk result (λ line. Answers line (meant_by word (reading word start (map string_bytes words.entry.now)))) }
+    ensures { IfOk result (λ line.
+        Answers line (meant_by word (reading word start (map string_bytes words.entry.now)))) }
 {
     let mut reading = Reading::new(alloc);
     let line = match reading.read(word, words)? {

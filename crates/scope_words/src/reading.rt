@@ -73,7 +73,8 @@ impl<'w> Reading<'w> {
         word: Word,
         words: &'w [String],
     ) -> Result<Option<Ending<&'w [u8]>>, AllocError>
-        ensures { IfOk result (λ end. reads_now end self.new ≡ reading word (state_of self.old) (map string_bytes words.entry.now)) }
+        ensures { IfOk result (λ end.
+            reads_now end self.new ≡ reading word (state_of self.old) (map string_bytes words.entry.now)) }
     {
         for text in words {
             let said = step_by(

@@ -3,12 +3,10 @@ ghost use Rattle.std.specs.Prelude.{◌≡◌, codes, is_some, option_map};
 ghost use Rattle.scope_words.specs.Answers.{AsksAs, FilesOf, PlanAskedBy, SessionsAskedBy, word_or_none};
 ghost use Rattle.scope_words.specs.Meanings.{pairs, text_of};
 
-use crate::asked::{
-    Asked, CheckAsked, DrawAsked, EchoAsked, PacketAsked, PlanAsked, SessionsAsked,
-};
 use crate::entries::{Entry, has, text_of};
 use crate::line::Files;
 use crate::word::Word;
+use scope_run::{Asked, CheckAsked, DrawAsked, EchoAsked, PacketAsked, PlanAsked, SessionsAsked};
 
 /// The text of an argument; empty where it isn't given.
 fn argument<'w>(name: &[u8], given: &[Entry<'w>]) -> &'w [u8]

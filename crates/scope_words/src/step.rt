@@ -1,7 +1,8 @@
 //! What one word says, after those before it.
 ghost use Rattle.std.specs.Prelude.{◌≡◌, option_map};
 ghost use Rattle.scope_words.specs.Meanings.{pairs, step_now};
-ghost use Rattle.scope_words.specs.Steps.{argument_step, flag_step, known_step, option_step, plain_step, step_by, value_step, valued_step};
+ghost use Rattle.scope_words.specs.Steps.{argument_step, flag_step, known_step, option_step};
+ghost use Rattle.scope_words.specs.Steps.{plain_step, step_by, value_step, valued_step};
 
 use crate::cut::{asks_help, head_of, is_dashed, value_of};
 use crate::entries::{Entry, first_lacking, has};
@@ -87,12 +88,7 @@ fn option_step<'w>(word: Word, given: &[Entry<'w>], text: &'w [u8]) -> Said<'w>
     }
 }
 
-fn plain_step<'w>(
-    word: Word,
-    given: &[Entry<'w>],
-    only_arguments: bool,
-    text: &'w [u8],
-) -> Said<'w>
+fn plain_step<'w>(word: Word, given: &[Entry<'w>], only_arguments: bool, text: &'w [u8]) -> Said<'w>
     ensures { step_now result ≡ plain_step word (pairs given.now) only_arguments text.entry.now }
 {
     if only_arguments {
@@ -127,7 +123,8 @@ pub(crate) fn step_by<'w>(
     only_arguments: bool,
     text: &'w [u8],
 ) -> Said<'w>
-    ensures { step_now result ≡ step_by word (pairs given.now) (option_map (λ w. w.now) waiting.entry) only_arguments text.entry.now }
+    ensures { step_now result
+        ≡ step_by word (pairs given.now) (option_map (λ w. w.now) waiting.entry) only_arguments text.entry.now }
 {
     match waiting {
         Some(name) => value_step(name, text),

@@ -2,7 +2,8 @@
 ghost use Rattle.std.specs.Prelude.{◌≡◌, map};
 ghost use Rattle.std.specs.List.{list_any};
 ghost use Rattle.std.specs.Str.{bytes_eq};
-ghost use Rattle.scope_words.specs.Tables.{arguments_of, flags_of, options_with_draw_of, required_of, valued_options_of};
+ghost use Rattle.scope_words.specs.Tables.{arguments_of, flags_of, options_with_draw_of};
+ghost use Rattle.scope_words.specs.Tables.{required_of, valued_options_of};
 
 use crate::word::Word;
 

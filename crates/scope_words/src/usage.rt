@@ -79,7 +79,8 @@ fn name_of(page: Page) -> &'static [u8]
 
 /// The line that tells why words are refused.
 pub fn push_usage(out: &mut Vec<u8>, usage: &Usage<'_>) -> Result<(), AllocError>
-    ensures { OnOk result (out.new.items ≡ out.old.items ++ usage_text usage.now.page usage.now.cause usage.now.text.now) }
+    ensures { OnOk result (out.new.items
+        ≡ out.old.items ++ usage_text usage.now.page usage.now.cause usage.now.text.now) }
 {
     out.extend_from_slice(b"usage: ")?;
     out.extend_from_slice(front_of(usage.cause))?;
