@@ -1,5 +1,5 @@
 -- What an answer has of what a command line says: each field the text of its own name (own).
-use Rattle.std.specs.Prelude.{◌≡◌, ℕ, Bool, List, [], codes, Option, Some, None, option_map}
+use Rattle.std.specs.Prelude.{◌≡◌, ℕ, List, [], codes, Option, Some, None, option_map}
 use Rattle.scope_run.specs.declared.asked.Asked.{Asked}
 use Rattle.scope_run.specs.declared.asked.Asked.TheVariants as asked
 use Rattle.scope_run.specs.declared.asked.PlanAsked.{PlanAsked}
@@ -8,7 +8,6 @@ use Rattle.scope_words.specs.declared.line.CommandLine.{CommandLine}
 use Rattle.scope_words.specs.declared.line.CommandLine.TheVariants as line
 use Rattle.scope_words.specs.declared.line.Files.{Files}
 use Rattle.scope_words.specs.declared.line.Request.{Request}
-use Rattle.scope_words.specs.declared.usage.Usage.{Usage}
 use Rattle.scope_words.specs.declared.word.Word.{Word}
 use Rattle.scope_words.specs.declared.word.Word.TheVariants as word
 use Rattle.scope_words.specs.Lines.{Meant, nothing_meant, help_meant, version_meant}

@@ -1,8 +1,7 @@
 -- A whole command line, and the line that tells why one is refused (own).
 use Rattle.std.specs.Prelude.{ℕ, List, [], ◌∷◌, ◌++◌, ◌||◌, codes, Option, Some, None}
-use Rattle.std.specs.Prelude.{Result, Ok, Err, if◌then◌else◌}
+use Rattle.std.specs.Prelude.{Ok, Err, if◌then◌else◌}
 use Rattle.std.specs.Str.{bytes_eq}
-use Rattle.scope_words.specs.declared.step.Ending.{Ending}
 use Rattle.scope_words.specs.declared.step.Ending.TheVariants as ending
 use Rattle.scope_words.specs.declared.usage.Cause.{Cause}
 use Rattle.scope_words.specs.declared.usage.Cause.TheVariants as cause

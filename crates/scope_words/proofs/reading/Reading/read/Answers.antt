@@ -1,6 +1,5 @@
-use Rattle.std.proofs.Common.{◌≡◌, ◌∙◌, sym, ◌+◌, drop, map, string_bytes}
+use Rattle.std.proofs.Common.{◌∙◌, sym, string_bytes}
 use Rattle.scope_words.specs.Meanings.{state_of}
-use Rattle.scope_words.specs.Readings.{reading}
 use Rattle.scope_words.proofs.WordLaws.{all_read, ends, from_place, goes_on, past_place}
 use Rattle.scope_words.proofs.reading.Reading.read.Goals as goal
 
