@@ -18,7 +18,7 @@ def takes(program, *words):
 
 
 class Page:
-    """A page of help in clap's form: `about`, `usage`, its lists by their heads, and its paragraphs, each a list of lines."""
+    """A page of help of aoscope: `about`, `usage`, its lists by their heads, and its paragraphs, each a list of lines."""
 
     def __init__(self, text):
         blocks = [block.splitlines() for block in text.strip().split("\n\n")]

@@ -16,7 +16,7 @@ def places():
     """Each text of the crates that has the version, with the file in which it stands once."""
     yield "crates/aotcp/src/own_text.rt", f'"aotcp {number()}\\n"'
     yield "crates/aotcp/specs/OwnTexts.antt", f'"aotcp {number()}\\n"'
-    yield "crates/aoscope/src/command.rt", f'.version("{number()}")'
+    yield "crates/aoscope/src/main.rt", f'"aoscope {number()}\\n"'
 
 
 def git(*words):

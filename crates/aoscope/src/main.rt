@@ -1,33 +1,23 @@
 //! `aoscope`: hands the standard streams to what the words ask for, and ends with its status.
 #![tactic(auto)]
 
-mod arguments;
-mod check;
-mod command;
-mod draw;
-mod echo;
-mod keys;
 mod opening;
-mod plan;
 mod running;
-mod sessions;
-mod sessions_page;
 mod waiting;
-mod why;
 
-use ao_base::{WriteSink, write_all};
-use clap::error::ErrorKind;
-use clap::{ArgMatches, Error};
-use command::command;
+use ao_base::{Failed, WriteSink, write_all};
 use running::{Paths, run_files};
-use scope_run::Asked;
+use scope_words::{CommandLine, Files, Page, Request, Usage, help_page, parse, push_usage};
 use std::process::ExitCode;
-use std::{env, io};
+use std::{env, io, str};
 
-/// The words of the command line, the program's name first; an error where one isn't UTF-8.
+/// What `--version` prints.
+const VERSION: &[u8] = b"aoscope 0.2.0\n";
+
+/// The words of the command line, without the program's name; an error where one isn't UTF-8.
 fn words(rt: &HostRuntime) -> io::Result<Vec<String>> {
     let mut words = Vec::new(rt.alloc());
-    for word in env::args(rt)? {
+    for word in env::args(rt)?.skip(1) {
         words.push(word)?;
     }
     Ok(words)
@@ -44,60 +34,61 @@ fn out_of_memory(rt: &HostRuntime) -> u8 {
     tell(rt, b"memory\n", 7)
 }
 
-/// What a word asks for, by its arguments; none where one that the command line requires isn't there.
-fn asked<'m>(word: &str, matches: &'m ArgMatches<'_>) -> Option<Asked<'m>> {
-    match word {
-        "lines" => Some(Asked::Lines),
-        "check" => check::asked(matches),
-        "sessions" => sessions::asked(matches),
-        "why" => why::asked(matches),
-        "keys" => keys::asked(matches),
-        "plan" => plan::asked(matches),
-        "draw" => draw::asked(matches),
-        "echo" => echo::asked(matches),
-        _ => None,
+/// Tells that a word isn't UTF-8.
+fn not_utf8(rt: &HostRuntime) -> u8 {
+    tell(rt, b"usage: a word is not UTF-8\n", 2)
+}
+
+/// Writes a text of the program's own.
+fn print(rt: &HostRuntime, text: &[u8]) -> u8 {
+    match write_all(&mut WriteSink::new(rt.stdout()), text) {
+        Ok(()) => 0,
+        Err(Failed) => tell(rt, b"write fault\n", 6),
     }
 }
 
-/// The files that the words name; none for an argument that a word doesn't have.
-fn paths<'m>(matches: &'m ArgMatches<'_>) -> Paths<'m> {
-    Paths {
-        keys: matches.get_str("KEYS"),
-        isns: matches.get_str("isn"),
-        input: matches.get_str("input"),
+/// Tells why the words are refused.
+fn refuse(rt: &HostRuntime, usage: &Usage<'_>) -> u8 {
+    let mut text = Vec::new(rt.alloc());
+    match push_usage(&mut text, usage) {
+        Ok(()) => tell(rt, text.as_slice(), 2),
+        Err(_) => out_of_memory(rt),
     }
 }
 
-/// What the words ask for.
-fn run(rt: &HostRuntime, matches: &ArgMatches<'_>) -> u8 {
-    let Some((word, matches)) = matches.subcommand() else {
-        return out_of_memory(rt);
-    };
-    match asked(word, matches) {
-        Some(asked) => run_files(rt, word, &asked, paths(matches)),
-        None => out_of_memory(rt),
+/// The path that these bytes of a word write; an error where they aren't UTF-8.
+fn path_of(bytes: Option<&[u8]>) -> Result<Option<&str>, str::Utf8Error> {
+    match bytes {
+        Some(bytes) => Ok(Some(str::from_utf8(bytes)?)),
+        None => Ok(None),
     }
 }
 
-/// Help, or why the words are refused.
-fn explain(rt: &HostRuntime, error: &Error) -> u8 {
-    if let ErrorKind::OutOfMemory = error.kind() {
-        return out_of_memory(rt);
-    }
-    match error.print(rt) {
-        Ok(()) => error.exit_code() as u8,
-        Err(_) => tell(rt, b"write fault\n", 6),
+/// The paths of the files that the words name.
+fn paths<'w>(files: Files<'w>) -> Result<Paths<'w>, str::Utf8Error> {
+    Ok(Paths {
+        keys: path_of(files.keys)?,
+        isns: path_of(files.isns)?,
+        input: path_of(files.input)?,
+    })
+}
+
+/// What a word is asked for.
+fn run(rt: &HostRuntime, request: &Request<'_>) -> u8 {
+    match paths(request.files) {
+        Ok(paths) => run_files(rt, request.word, &request.asked, paths),
+        Err(_) => not_utf8(rt),
     }
 }
 
-fn answer<'w>(rt: &HostRuntime, words: &'w [String]) -> u8 {
-    let command = match command(rt.alloc()) {
-        Ok(command) => command,
-        Err(_) => return out_of_memory(rt),
-    };
-    match command.try_get_matches_from(words) {
-        Ok(matches) => run(rt, &matches),
-        Err(error) => explain(rt, &error),
+fn answer(rt: &HostRuntime, words: &[String]) -> u8 {
+    match parse(rt.alloc(), words) {
+        Ok(CommandLine::Nothing) => tell(rt, help_page(Page::Program).as_bytes(), 2),
+        Ok(CommandLine::Help(page)) => print(rt, help_page(page).as_bytes()),
+        Ok(CommandLine::Version) => print(rt, VERSION),
+        Ok(CommandLine::Refused(usage)) => refuse(rt, &usage),
+        Ok(CommandLine::Asks(request)) => run(rt, &request),
+        Err(_) => out_of_memory(rt),
     }
 }
 
@@ -108,7 +99,7 @@ fn main(rt: HostRuntime) -> ExitCode {
             if error.kind() == io::ErrorKind::OutOfMemory {
                 out_of_memory(&rt)
             } else {
-                tell(&rt, b"usage: a word is not UTF-8\n", 2)
+                not_utf8(&rt)
             }
         }
     };

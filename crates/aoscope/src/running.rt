@@ -4,6 +4,7 @@ use crate::waiting::tell_waiting;
 use ao_base::{QuietSource, ReadSource, Source, WriteSink};
 use book_base::Bytes;
 use scope_run::{Asked, run};
+use scope_words::Word;
 
 /// A source for what the words don't ask for.
 fn none(rt: &HostRuntime) -> QuietSource {
@@ -26,7 +27,7 @@ fn run_over<K: Source, J: Source, I: Source>(
 /// Over these files, and the one that `-r` names in place of standard input.
 fn run_input<K: Source, J: Source>(
     rt: &HostRuntime,
-    word: &str,
+    word: Word,
     asked: &Asked<'_>,
     keys: &mut K,
     isns: &mut J,
@@ -50,7 +51,7 @@ fn run_input<K: Source, J: Source>(
 /// Over this key file, and the file of initial sequence numbers that the words name.
 fn run_isns<K: Source>(
     rt: &HostRuntime,
-    word: &str,
+    word: Word,
     asked: &Asked<'_>,
     keys: &mut K,
     isns: Option<&str>,
@@ -75,7 +76,7 @@ pub(crate) struct Paths<'a> {
 }
 
 /// Over the files at these paths.
-pub(crate) fn run_files(rt: &HostRuntime, word: &str, asked: &Asked<'_>, paths: Paths<'_>) -> u8 {
+pub(crate) fn run_files(rt: &HostRuntime, word: Word, asked: &Asked<'_>, paths: Paths<'_>) -> u8 {
     match paths.keys {
         Some(path) => {
             let mut keys = ReadSource::new(Opening::of(rt, path));
