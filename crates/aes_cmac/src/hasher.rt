@@ -1,5 +1,6 @@
 //! CMAC fed in pieces, and its PRF.
-ghost use Rattle.std.specs.Prelude.{◌≡◌, ◌+◌, ◌-◌, ◌<◌, ◌≤◌, ◌++◌, ◌∷◌, List, [], ℕ, length, take, replicate, ◌==◌, if◌then◌else◌};
+ghost use Rattle.std.specs.Prelude.{◌≡◌, ◌+◌, ◌-◌, ◌<◌, ◌≤◌, ◌++◌, ◌∷◌, List, [], ℕ, length, take, replicate, ◌==◌};
+ghost use Rattle.std.specs.Prelude.if◌then◌else◌;
 ghost use Rattle.book_macs.specs.Ciphers.{aes, cmac, prf, xor, last_block};
 ghost use Rattle.aes_cmac.specs.Block.{bytes_of, halves_bytes};
 ghost use Rattle.aes_cmac.specs.Cipher.{IsKeyed};
@@ -139,7 +140,9 @@ fn message_code(key: Block, message: &[u8]) -> Block
 /// The chain over whole blocks, as long as bytes follow them, and the bytes that are left.
 fn absorbed<'a>(cipher: &Aes128, from: Halves, bytes: &'a [u8]) -> (Halves, &'a [u8])
     ensures short { length result.1.now ≤ 16 }
-    ensures same { (key more : List ℕ) → IsKeyed cipher.now key → goes_on key (halves_bytes from) (bytes.now ++ more) ≡ goes_on key (halves_bytes result.0) (result.1.now ++ more) }
+    ensures same { (key more : List ℕ) → IsKeyed cipher.now key
+        → goes_on key (halves_bytes from) (bytes.now ++ more)
+        ≡ goes_on key (halves_bytes result.0) (result.1.now ++ more) }
 {
     let mut state = from;
     let mut rest = bytes;
@@ -163,7 +166,8 @@ fn overlaid(mut block: [u8; BLOCK_LEN], at: usize, bytes: &[u8]) -> [u8; BLOCK_L
 /// The last block of a message, whole or padded, with its subkey (RFC 4493, section 2.4).
 fn closed(subkeys: Subkeys, held: [u8; BLOCK_LEN], filled: usize) -> Halves
     requires { filled ≤ 16 }
-    ensures { (key : List ℕ) → AreSubkeys subkeys key → halves_bytes result ≡ last_block (aes key (replicate 16 0)) (take filled held) }
+    ensures { (key : List ℕ) → AreSubkeys subkeys key → halves_bytes result
+        ≡ last_block (aes key (replicate 16 0)) (take filled held) }
 {
     if filled == BLOCK_LEN {
         Block::of(&held).to_halves().xor(subkeys.whole)

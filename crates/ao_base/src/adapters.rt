@@ -28,8 +28,10 @@ impl<R: Read> Source for ReadSource<R> {
 
     /// What the reader gives. The count rises by one at Failed, and stays as it was at Ok.
     fn read(&mut self, buf: &mut [u8]) -> Result<usize, Failed>
-        ensures reads { Reads (side_of_source R.remaining self.old) (side_of_source R.remaining self.new) buf.new result }
-        ensures counts { CountsOnce (side_of_source R.remaining self.old).faults (side_of_source R.remaining self.new).faults result }
+        ensures reads { Reads (side_of_source R.remaining self.old) (side_of_source R.remaining self.new) buf.new
+            result }
+        ensures counts { CountsOnce (side_of_source R.remaining self.old).faults
+            (side_of_source R.remaining self.new).faults result }
     {
         match self.reader.read(buf) {
             Ok(n) => Ok(n),
@@ -65,7 +67,8 @@ impl<W: Write> Sink for WriteSink<W> {
     /// What the writer takes. The count rises by one at Failed, and stays as it was at Ok.
     fn write(&mut self, buf: &[u8]) -> Result<usize, Failed>
         ensures writes { Writes (side_of_sink W.contents self.old) (side_of_sink W.contents self.new) buf.now result }
-        ensures counts { CountsOnce (side_of_sink W.contents self.old).faults (side_of_sink W.contents self.new).faults result }
+        ensures counts { CountsOnce (side_of_sink W.contents self.old).faults (side_of_sink W.contents self.new).faults
+            result }
     {
         match self.writer.write(buf) {
             Ok(n) => {

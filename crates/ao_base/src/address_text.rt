@@ -1,6 +1,7 @@
 //! Addresses as text.
 ghost use Rattle.std.specs.Prelude.{◌≡◌, [], ◌∷◌, ◌++◌, decimal, position, IfOk, OnOk, MatchOption};
-ghost use Rattle.book_base.specs.Addresses.{address_of, address_text, between_dots, dotted_of, dotted_text, four, has_leading_zero, is_dot, octet_of};
+ghost use Rattle.book_base.specs.Addresses.{address_of, address_text, between_dots, dotted_of, dotted_text, four};
+ghost use Rattle.book_base.specs.Addresses.{has_leading_zero, is_dot, octet_of};
 
 use crate::decimal::read_decimal;
 use crate::print::{push_decimal, push_hex};
@@ -62,7 +63,8 @@ fn has_leading_zero(word: &[u8]) -> bool
 
 // What stands before and after the first dot.
 fn split_dot(word: &[u8]) -> Option<(&[u8], &[u8])>
-    ensures { MatchOption result (between_dots word.now ≡ word.now ∷ []) (λ parts. between_dots word.now ≡ parts.0.now ∷ between_dots parts.1.now) }
+    ensures { MatchOption result (between_dots word.now ≡ word.now ∷ [])
+        (λ parts. between_dots word.now ≡ parts.0.now ∷ between_dots parts.1.now) }
 {
     match dot_at(word) {
         Some(place) => Some((&word[..place], &word[place + 1..])),

@@ -1,6 +1,7 @@
 //! The bytes that were taken from a source and are still wanted, in memory of a fixed size, of which
 //! only as much is touched as they need.
-ghost use Rattle.std.specs.Prelude.{◌≡◌, ℕ, ◌+◌, ◌-◌, ◌<◌, ◌≤◌, List, [], length, take, drop, slice_range, vec_capacity, IfOk};
+ghost use Rattle.std.specs.Prelude.{◌≡◌, ℕ, ◌+◌, ◌-◌, ◌<◌, ◌≤◌, List, [], length, take, drop, slice_range};
+ghost use Rattle.std.specs.Prelude.{vec_capacity, IfOk};
 ghost use Rattle.ao_base.specs.Outside.{Side, Reads};
 ghost use Rattle.ao_base.specs.Buffered.{Buffered, TakesMore};
 
@@ -28,9 +29,14 @@ impl Model for Buffer {
 
     ghost Value = { Buffered };
 
-    ghost view = { λ b. record { kept = slice_range b.bytes.items b.from b.to; piece = slice_range b.bytes.items b.first b.after; size = b.size } };
+    ghost view = { λ b. record {
+      kept = slice_range b.bytes.items b.from b.to;
+      piece = slice_range b.bytes.items b.first b.after;
+      size = b.size;
+    } };
 
-    ghost invariant = { λ b. (b.first ≤ b.after) × (b.after ≤ length b.bytes.items) × (b.from ≤ b.to) × (b.to ≤ length b.bytes.items) × (length b.bytes.items ≤ b.size) × (b.size ≤ vec_capacity b.bytes) };
+    ghost invariant = { λ b. (b.first ≤ b.after) × (b.after ≤ length b.bytes.items) × (b.from ≤ b.to)
+        × (b.to ≤ length b.bytes.items) × (length b.bytes.items ≤ b.size) × (b.size ≤ vec_capacity b.bytes) };
 }
 
 impl Buffer {
@@ -69,7 +75,12 @@ impl Buffer {
         requires ordered { first ≤ after }
         requires within { after ≤ length self.old.kept }
         requires past { past ≤ length self.old.kept }
-        ensures { self.new ≡ record { kept = drop past self.old.kept; piece = slice_range self.old.kept first after; size = self.old.size } }
+        ensures { self.new
+            ≡ record {
+              kept = drop past self.old.kept;
+              piece = slice_range self.old.kept first after;
+              size = self.old.size;
+            } }
     {
         self.first = self.from + first;
         self.after = self.from + after;

@@ -1,5 +1,6 @@
 //! Hexadecimal.
-ghost use Rattle.std.specs.Prelude.{◌≡◌, ◌↔◌, ◌+◌, ◌*◌, ◌/◌, ◌%◌, ◌<◌, ◌≤◌, ℕ, length, slice_index, unwrap_or, IsTrue, IsFalse, IfOk, IsErrOf, Option, Some, None, Ok};
+ghost use Rattle.std.specs.Prelude.{◌≡◌, ◌↔◌, ◌+◌, ◌*◌, ◌/◌, ◌%◌, ◌<◌, ◌≤◌, ℕ, length, slice_index, unwrap_or};
+ghost use Rattle.std.specs.Prelude.{IsTrue, IsFalse, IfOk, IsErrOf, Option, Some, None, Ok};
 ghost use Rattle.std.specs.List.{list_all};
 ghost use Rattle.std.specs.Char.{is_ascii_hexdigit};
 ghost use Rattle.hex.specs.Hex.{hex_digit_value, pair_value};
@@ -57,7 +58,8 @@ fn decode_blocks(word: &[u8], bytes: &mut [u8]) -> bool
     requires { length word.now ≡ 2 * length bytes.old }
     ensures length { length bytes.new ≡ length bytes.old }
     ensures yes { IsTrue result → (i : ℕ) → i < length bytes.old / 16 * 16
-        → pair_value (slice_index word.now (2 * i)) (slice_index word.now (2 * i + 1)) (2 * i) ≡ Ok (slice_index bytes.new i) }
+        → pair_value (slice_index word.now (2 * i)) (slice_index word.now (2 * i + 1)) (2 * i)
+        ≡ Ok (slice_index bytes.new i) }
     ensures no { IsFalse result → bytes_of_hex word.now ≡ None }
 {
     'whole: for block in 0..bytes.len() / 16 {
@@ -76,7 +78,8 @@ fn decode_block(word: &[u8], bytes: &mut [u8], at: usize) -> bool
     ensures length { length bytes.new ≡ length bytes.old }
     ensures before { (i : ℕ) → i < at → slice_index bytes.new i ≡ slice_index bytes.old i }
     ensures yes { IsTrue result → (i : ℕ) → at ≤ i → i < at + 16
-        → pair_value (slice_index word.now (2 * i)) (slice_index word.now (2 * i + 1)) (2 * i) ≡ Ok (slice_index bytes.new i) }
+        → pair_value (slice_index word.now (2 * i)) (slice_index word.now (2 * i + 1)) (2 * i)
+        ≡ Ok (slice_index bytes.new i) }
     ensures no { IsFalse result → bytes_of_hex word.now ≡ None }
 {
     let first = digits(word, 2 * at);
@@ -97,7 +100,8 @@ fn decode_block(word: &[u8], bytes: &mut [u8], at: usize) -> bool
 fn digits(word: &[u8], at: usize) -> u8x16
     requires { at + 16 ≤ length word.now }
     ensures lanes { length result ≡ 16 }
-    ensures values { (i : ℕ) → i < 16 → slice_index result i ≡ unwrap_or (hex_digit_value (slice_index word.now (at + i))) 16 }
+    ensures values { (i : ℕ) → i < 16 → slice_index result i ≡ unwrap_or
+        (hex_digit_value (slice_index word.now (at + i))) 16 }
 {
     let lanes = u8x16::from_slice(&word[at..]);
     let number = lanes - u8x16::splat(b'0');
@@ -124,7 +128,8 @@ fn are_digits(values: u8x16) -> bool
 fn decode_rest(word: &[u8], bytes: &mut [u8]) -> bool
     requires twice { length word.now ≡ 2 * length bytes.old }
     requires read { (i : ℕ) → i < length bytes.old / 16 * 16
-        → pair_value (slice_index word.now (2 * i)) (slice_index word.now (2 * i + 1)) (2 * i) ≡ Ok (slice_index bytes.old i) }
+        → pair_value (slice_index word.now (2 * i)) (slice_index word.now (2 * i + 1)) (2 * i)
+        ≡ Ok (slice_index bytes.old i) }
     ensures yes { IsTrue result → bytes_of_hex word.now ≡ Some bytes.new }
     ensures no { IsFalse result → bytes_of_hex word.now ≡ None }
 {

@@ -1,5 +1,6 @@
 //! A source and a sink in memory, whose calls fail where they are told to.
-ghost use Rattle.std.specs.Prelude.{◌≡◌, ℕ, ◌+◌, ◌<◌, ◌≤◌, ◌++◌, List, [], Some, length, take, drop, min, vec_capacity, IfOk};
+ghost use Rattle.std.specs.Prelude.{◌≡◌, ℕ, ◌+◌, ◌<◌, ◌≤◌, ◌++◌, List, [], Some, length, take, drop, min};
+ghost use Rattle.std.specs.Prelude.{vec_capacity, IfOk};
 ghost use Rattle.std.specs.List.{list_any};
 ghost use Rattle.std.specs.Prelude.{◌==◌};
 ghost use Rattle.ao_base.specs.InMemory.{GivingState, TakingState, Gives, Takes, IsTaking, giving_side, taking_side};
@@ -25,7 +26,13 @@ pub struct MemSource {
 impl Model for MemSource {
     ghost Value = { GivingState };
 
-    ghost view = { λ s. record { left = drop s.at s.content; piece = s.piece; failing = s.failing; calls = s.calls; faults = s.faults } };
+    ghost view = { λ s. record {
+      left = drop s.at s.content;
+      piece = s.piece;
+      failing = s.failing;
+      calls = s.calls;
+      faults = s.faults;
+    } };
 
     ghost invariant = { λ s. (s.at ≤ length s.content) × (1 ≤ s.piece) };
 }
@@ -84,9 +91,16 @@ pub struct MemSink {
 impl Model for MemSink {
     ghost Value = { TakingState };
 
-    ghost view = { λ s. record { held = s.held.items; room = s.room; failing = s.failing; calls = s.calls; faults = s.faults } };
+    ghost view = { λ s. record {
+      held = s.held.items;
+      room = s.room;
+      failing = s.failing;
+      calls = s.calls;
+      faults = s.faults;
+    } };
 
-    ghost invariant = { λ s. (s.room ≤ vec_capacity s.held) × IsTaking (record { held = s.held.items; room = s.room; failing = s.failing; calls = s.calls; faults = s.faults }) };
+    ghost invariant = { λ s. (s.room ≤ vec_capacity s.held) × IsTaking
+        (record { held = s.held.items; room = s.room; failing = s.failing; calls = s.calls; faults = s.faults }) };
 }
 
 impl MemSink {

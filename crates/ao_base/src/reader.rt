@@ -48,7 +48,15 @@ impl Model for LineReader {
 
     ghost Value = { Reading };
 
-    ghost view = { λ r. record { longest = r.longest; most = r.most; kept = r.buffer.kept; taken = r.handed + length r.buffer.kept; lacks_newline = r.lacks_newline; over = r.over; line = cond r.shown (Some r.buffer.piece) None } };
+    ghost view = { λ r. record {
+      longest = r.longest;
+      most = r.most;
+      kept = r.buffer.kept;
+      taken = r.handed + length r.buffer.kept;
+      lacks_newline = r.lacks_newline;
+      over = r.over;
+      line = cond r.shown (Some r.buffer.piece) None;
+    } };
 
     ghost invariant = { λ r. (r.handed ≤ r.most) × (r.buffer.size ≡ r.longest + 65536) };
 }
@@ -57,7 +65,17 @@ impl LineReader {
     /// A reader of lines of at most `longest` bytes, without their newline, of a source of at most
     /// `most` bytes. It takes all its memory here.
     pub fn new(alloc: Global, longest: u32, most: u64) -> Result<LineReader, AllocError>
-        ensures { IfOk result (λ r. r ≡ record { longest = longest; most = most; kept = []; taken = 0; lacks_newline = false; over = false; line = None }) }
+        ensures { IfOk result
+            (λ r. r
+            ≡ record {
+              longest = longest;
+              most = most;
+              kept = [];
+              taken = 0;
+              lacks_newline = false;
+              over = false;
+              line = None;
+            }) }
     {
         let buffer = Buffer::new(alloc, longest as usize + SPARE)?;
         Ok(LineReader {
@@ -83,7 +101,8 @@ impl LineReader {
     /// No more than `longest` and 65,536 bytes are kept at any time.
     pub fn next<S: Source>(&mut self, src: &mut S) -> LineStep
         requires { self.old.over ≡ false }
-        ensures advances { (given : List ℕ) × Advances self.old self.new (S.side src.old) (S.side src.new) given result }
+        ensures advances { (given : List ℕ) × Advances self.old self.new (S.side src.old) (S.side src.new) given
+            result }
         ensures quiet { (left : List ℕ) → IsQuiet self.old (S.side src.old) (S.side src.new) left → IsLineOrEnd result }
     {
         self.advance(src)

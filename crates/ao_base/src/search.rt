@@ -29,7 +29,8 @@ pub(crate) fn find_line<S: Source>(
     allowed: u64,
 ) -> Found
     requires { longest < buffer.old.size }
-    ensures { (given : List ℕ) × Finds longest allowed buffer.old buffer.new (S.side src.old) (S.side src.new) given result }
+    ensures { (given : List ℕ) × Finds longest allowed buffer.old buffer.new (S.side src.old) (S.side src.new) given
+        result }
 {
     let mut seen = 0;
     'takes: loop {
@@ -67,7 +68,8 @@ pub(crate) fn find_line<S: Source>(
 fn newline_from(bytes: &[u8], from: usize) -> Option<usize>
     requires within { from ≤ length bytes.now }
     requires none { position_or_len is_newline (take from bytes.now) ≡ from }
-    ensures { MatchOption result (position_or_len is_newline bytes.now ≡ length bytes.now) (λ n. (n ≡ position_or_len is_newline bytes.now) × (n < length bytes.now)) }
+    ensures { MatchOption result (position_or_len is_newline bytes.now ≡ length bytes.now)
+        (λ n. (n ≡ position_or_len is_newline bytes.now) × (n < length bytes.now)) }
 {
     match memchr(b'\n', &bytes[from..]) {
         Some(n) => Some(from + n),

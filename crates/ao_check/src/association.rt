@@ -1,5 +1,6 @@
 //! An association of one end with its peer.
-ghost use Rattle.std.specs.Prelude.{◌≡◌, true, ◌≤◌, ◌<◌, ◌-◌, ◌+◌, ◌/◌, ◌^◌, ℕ, List, length, Option, Some, None, IfErr, IfOk, IfSome, option_map, slice_get, slice_index_or};
+ghost use Rattle.std.specs.Prelude.{◌≡◌, true, ◌≤◌, ◌<◌, ◌-◌, ◌+◌, ◌/◌, ◌^◌, ℕ, List, length, Option, Some, None};
+ghost use Rattle.std.specs.Prelude.{IfErr, IfOk, IfSome, option_map, slice_get, slice_index_or};
 ghost use Rattle.book_segments.specs.Bytes.{ring};
 ghost use Rattle.book_segments.specs.Options.{One, find_ao};
 ghost use Rattle.book_segments.specs.Segments.{has, SYN};
@@ -52,7 +53,13 @@ impl Model for Association {
 
     ghost Value = { Bond };
 
-    ghost view = { λ a. record { pair = a.pair; own = a.own_isn; peer = a.peer_isn; current = a.choice; keys = a.keys } };
+    ghost view = { λ a. record {
+      pair = a.pair;
+      own = a.own_isn;
+      peer = a.peer_isn;
+      current = a.choice;
+      keys = a.keys;
+    } };
 }
 
 impl Association {
@@ -103,12 +110,16 @@ impl Association {
         requires source { datagram.now.source ≡ self.old.pair.remote }
         requires destination { datagram.now.destination ≡ self.old.pair.local }
         requires expected { IsExpected self.old.peer expected }
-        ensures verdict { Tells table.now.rows self.old.pair datagram.now (verdict_of result) (judge table.now.rows self.old.pair (record { own_isn = self.old.own; peer_isn = self.old.peer; expected = expected }) now datagram.now) }
+        ensures verdict { Tells table.now.rows self.old.pair datagram.now (verdict_of result)
+            (judge table.now.rows self.old.pair
+            (record { own_isn = self.old.own; peer_isn = self.old.peer; expected = expected }) now datagram.now) }
         ensures option { IfOk result (λ p. find_ao datagram.now.area ≡ One (view_ao p.option)) }
         ensures refusal { IfErr result (λ v. IsRefusal v) }
         ensures same { self.new ≡ record self.old { keys = self.new.keys } }
         ensures fits { Fits table.now.rows self.new }
-        ensures counted { Counted self.old.keys self.new.keys (judging table.now.rows self.old.pair now (find_ao datagram.now.area)) (is_judged (verdict_of result)) Inbound (has SYN datagram.now) steps.old steps.new }
+        ensures counted { Counted self.old.keys self.new.keys
+            (judging table.now.rows self.old.pair now (find_ao datagram.now.area)) (is_judged (verdict_of result))
+            Inbound (has SYN datagram.now) steps.old steps.new }
     {
         let seen = match screen_segment(
             &self.pair,
@@ -153,10 +164,14 @@ impl Association {
         requires source { datagram.now.source ≡ self.old.pair.remote }
         requires destination { datagram.now.destination ≡ self.old.pair.local }
         requires expected { IsExpected self.old.peer expected }
-        ensures verdict { Tells table.now.rows self.old.pair datagram.now result (judge table.now.rows self.old.pair (record { own_isn = self.old.own; peer_isn = self.old.peer; expected = expected }) now datagram.now) }
+        ensures verdict { Tells table.now.rows self.old.pair datagram.now result
+            (judge table.now.rows self.old.pair
+            (record { own_isn = self.old.own; peer_isn = self.old.peer; expected = expected }) now datagram.now) }
         ensures same { self.new ≡ record self.old { keys = self.new.keys } }
         ensures fits { Fits table.now.rows self.new }
-        ensures counted { Counted self.old.keys self.new.keys (judging table.now.rows self.old.pair now (find_ao datagram.now.area)) (is_judged result) Inbound (has SYN datagram.now) steps.old steps.new }
+        ensures counted { Counted self.old.keys self.new.keys
+            (judging table.now.rows self.old.pair now (find_ao datagram.now.area)) (is_judged result) Inbound
+            (has SYN datagram.now) steps.old steps.new }
     {
         match self.check_with_option(table, now, expected, datagram, steps) {
             Ok(passing) => Verdict::Pass(passing.passed),
@@ -169,7 +184,10 @@ impl Association {
     /// exactly where no row is sendable; then nothing changes.
     pub fn choose(&mut self, table: &Table, now: u64) -> Option<Sending>
         ensures sending { result ≡ option_map told (choose self.old.current table.now.rows self.old.pair now) }
-        ensures current { self.new ≡ record self.old { current = current_after self.old.current (choose self.old.current table.now.rows self.old.pair now) } }
+        ensures current { self.new
+            ≡ record self.old {
+              current = current_after self.old.current (choose self.old.current table.now.rows self.old.pair now);
+            } }
         ensures low { IfSome result (λ s. 1 ≤ s.row) }
         ensures high { IfSome result (λ s. s.row ≤ length table.now.rows) }
         ensures fits { Fits table.now.rows self.old → Fits table.now.rows self.new }
@@ -180,7 +198,8 @@ impl Association {
     /// Follows an RNextKeyID that was heard: the sendable row with this SendID becomes current; where there is
     /// none, nothing changes (RFC 5925, sections 6.1 and 7.5).
     pub fn follow(&mut self, table: &Table, rnext: u8, now: u64)
-        ensures current { self.new ≡ record self.old { current = follow self.old.current table.now.rows self.old.pair rnext now } }
+        ensures current { self.new
+            ≡ record self.old { current = follow self.old.current table.now.rows self.old.pair rnext now } }
         ensures fits { Fits table.now.rows self.old → Fits table.now.rows self.new }
     {
         self.choice.follow(table, &self.pair, rnext, now);
@@ -209,12 +228,14 @@ impl Association {
             → context_of (drafted h old payload) (Some self.old.own) self.old.peer ≡ Some (bytes_of result) }
         ensures sealed { (h : Head) (old payload rest : List ℕ) (r : Row) → Drafted datagram.old h old payload rest
             → slice_get table.now.rows (sending.now.row - 1) ≡ Some r
-            → IsSealed datagram.new h old payload rest r.algorithm (traffic_key r.algorithm r.master (bytes_of result)) (number / ring) r.with_options }
+            → IsSealed datagram.new h old payload rest r.algorithm (traffic_key r.algorithm r.master (bytes_of result))
+            (number / ring) r.with_options }
         ensures same { self.new ≡ record self.old { keys = self.new.keys } }
         ensures fits { Fits table.now.rows self.new }
         ensures most { steps.new ≤ steps.old + 1 }
         ensures counted { (h : Head) (old payload rest : List ℕ) → Drafted datagram.old h old payload rest
-            → Counted self.old.keys self.new.keys (Some sending.now.row) true Outbound (has SYN (drafted h old payload)) steps.old steps.new }
+            → Counted self.old.keys self.new.keys (Some sending.now.row) true Outbound
+            (has SYN (drafted h old payload)) steps.old steps.new }
     {
         let row = table.row(sending.row);
         let plan = outgoing(&datagram.as_datagram(), self.own_isn, self.peer_isn);

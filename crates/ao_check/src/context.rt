@@ -1,5 +1,6 @@
 //! The context of a segment's traffic key, and its number.
-ghost use Rattle.std.specs.Prelude.{◌≡◌, ◌<◌, ◌≤◌, ◌+◌, ◌^◌, Option, Some, None, true, false, IfSome, option_map, is_some, nat_lt, not, ◌&&◌};
+ghost use Rattle.std.specs.Prelude.{◌≡◌, ◌<◌, ◌≤◌, ◌+◌, ◌^◌, Option, Some, None, true, false, IfSome, option_map};
+ghost use Rattle.std.specs.Prelude.{is_some, nat_lt, not, ◌&&◌};
 ghost use Rattle.book_segments.specs.Segments.{has, segment_length, SYN};
 ghost use Rattle.book_macs.specs.Contexts.{context_of};
 ghost use Rattle.book_endpoint.specs.Verdicts.{segment_number};
@@ -12,7 +13,13 @@ use wrap_seq::extend;
 
 /// The context with these initial sequence numbers.
 fn between(datagram: &Datagram<'_>, source_isn: u32, dest_isn: u32) -> Context
-    ensures { result ≡ record { source = datagram.now.source; destination = datagram.now.destination; source_isn = source_isn; dest_isn = dest_isn } }
+    ensures { result
+        ≡ record {
+          source = datagram.now.source;
+          destination = datagram.now.destination;
+          source_isn = source_isn;
+          dest_isn = dest_isn;
+        } }
 {
     Context {
         source: datagram.source(),

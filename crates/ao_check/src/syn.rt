@@ -42,7 +42,9 @@ pub fn check_syn<'a, L: Ledger>(
     requires syn { has SYN datagram.now ≡ true }
     requires source { datagram.now.source ≡ pair.now.remote }
     requires destination { datagram.now.destination ≡ pair.now.local }
-    ensures verdict { Tells table.now.rows pair.now datagram.now (verdict_of result) (judge table.now.rows pair.now (record { own_isn = own_isn; peer_isn = None; expected = None }) now datagram.now) }
+    ensures verdict { Tells table.now.rows pair.now datagram.now (verdict_of result)
+        (judge table.now.rows pair.now (record { own_isn = own_isn; peer_isn = None; expected = None }) now
+        datagram.now) }
     ensures option { IfOk result (λ p. find_ao datagram.now.area ≡ One (view_ao p.option)) }
     ensures refusal { IfErr result (λ v. IsRefusal v) }
     ensures most { steps.new ≤ steps.old + 1 }

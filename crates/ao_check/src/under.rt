@@ -40,15 +40,20 @@ pub fn check_under<'a, L: Ledger>(
     datagram: &Datagram<'a>,
     steps: &mut Steps<L>,
 ) -> Result<Passing<'a>, Verdict>
-    requires fits { Fits table.now.rows (record { pair = pair.now; own = own_isn; peer = peer_isn; current = None; keys = keys.old }) }
+    requires fits { Fits table.now.rows
+        (record { pair = pair.now; own = own_isn; peer = peer_isn; current = None; keys = keys.old }) }
     requires source { datagram.now.source ≡ pair.now.remote }
     requires destination { datagram.now.destination ≡ pair.now.local }
     requires expected { IsExpected peer_isn expected }
-    ensures verdict { Tells table.now.rows pair.now datagram.now (verdict_of result) (judge table.now.rows pair.now (record { own_isn = own_isn; peer_isn = peer_isn; expected = expected }) now datagram.now) }
+    ensures verdict { Tells table.now.rows pair.now datagram.now (verdict_of result)
+        (judge table.now.rows pair.now (record { own_isn = own_isn; peer_isn = peer_isn; expected = expected }) now
+        datagram.now) }
     ensures option { IfOk result (λ p. find_ao datagram.now.area ≡ One (view_ao p.option)) }
     ensures refusal { IfErr result (λ v. IsRefusal v) }
-    ensures fits { Fits table.now.rows (record { pair = pair.now; own = own_isn; peer = peer_isn; current = None; keys = keys.new }) }
-    ensures counted { Counted keys.old keys.new (judging table.now.rows pair.now now (find_ao datagram.now.area)) (is_judged (verdict_of result)) Inbound (has SYN datagram.now) steps.old steps.new }
+    ensures fits { Fits table.now.rows
+        (record { pair = pair.now; own = own_isn; peer = peer_isn; current = None; keys = keys.new }) }
+    ensures counted { Counted keys.old keys.new (judging table.now.rows pair.now now (find_ao datagram.now.area))
+        (is_judged (verdict_of result)) Inbound (has SYN datagram.now) steps.old steps.new }
 {
     let seen = match screen_segment(pair, own_isn, peer_isn, table, now, expected, datagram) {
         Err(verdict) => return Err(verdict),
@@ -83,12 +88,16 @@ pub fn mac_under<L: Ledger>(
 ) -> MacBytes
     requires low { 1 ≤ number }
     requires high { number ≤ keys.old.rows }
-    requires kept { syn ≡ false → IsRight (kept keys.old number Outbound) (traffic_key row.now.algorithm row.now.master (bytes_of context.now)) }
+    requires kept { syn ≡ false → IsRight (kept keys.old number Outbound)
+        (traffic_key row.now.algorithm row.now.master (bytes_of context.now)) }
     requires found { find_ao datagram.now.area ≡ One (view_ao option) }
-    ensures mac { IsMacOf result row.now.algorithm (traffic_key row.now.algorithm row.now.master (bytes_of context.now)) extension datagram.now row.now.with_options }
+    ensures mac { IsMacOf result row.now.algorithm (traffic_key row.now.algorithm row.now.master
+        (bytes_of context.now)) extension datagram.now row.now.with_options }
     ensures length { length result ≡ mac_length_of row.now.algorithm }
-    ensures keys { keys.new ≡ keys_after syn keys.old number Outbound (traffic_key row.now.algorithm row.now.master (bytes_of context.now)) }
-    ensures kept { syn ≡ false → kept keys.new number Outbound ≡ Some (traffic_key row.now.algorithm row.now.master (bytes_of context.now)) }
+    ensures keys { keys.new ≡ keys_after syn keys.old number Outbound
+        (traffic_key row.now.algorithm row.now.master (bytes_of context.now)) }
+    ensures kept { syn ≡ false → kept keys.new number Outbound
+        ≡ Some (traffic_key row.now.algorithm row.now.master (bytes_of context.now)) }
     ensures counted { steps.new ≡ steps.old + steps_of syn (kept keys.old number Outbound) }
 {
     let algorithm = row.algorithm();

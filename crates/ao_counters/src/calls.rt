@@ -17,7 +17,8 @@ impl CountedStack {
     /// The connection of the pair is dropped, with its tally and all else that is kept of it. False
     /// exactly where the pair isn't held; then nothing has changed.
     pub fn remove(&mut self, pair: &Pair) -> bool
-        ensures { (s : StackState) (n : StackCounts) → Stands self.old s n → Follows self.new (At pair.now act.Remove) s n (IsDone result) }
+        ensures { (s : StackState) (n : StackCounts) → Stands self.old s n
+            → Follows self.new (At pair.now act.Remove) s n (IsDone result) }
     {
         let held = self.stack.remove(pair);
         if !held {
@@ -30,7 +31,8 @@ impl CountedStack {
     /// A piece is given to the connection of the pair, to be sent (RFC 9293, section 3.10.2): all of it
     /// or, after a refusal, nothing. `None` exactly where the pair isn't held.
     pub fn give(&mut self, pair: &Pair, piece: &[u8]) -> Option<GiveAnswer>
-        ensures { (s : StackState) (n : StackCounts) → Stands self.old s n → Follows self.new (At pair.now (act.Give piece.now)) s n (IsGiven result) }
+        ensures { (s : StackState) (n : StackCounts) → Stands self.old s n
+            → Follows self.new (At pair.now (act.Give piece.now)) s n (IsGiven result) }
     {
         self.stack.give(pair, piece)
     }
@@ -49,7 +51,8 @@ impl CountedStack {
     /// The connection of the pair takes no more bytes to send, and a FIN is sent behind those that it was
     /// given (RFC 9293, section 3.10.4). False exactly where the pair isn't held.
     pub fn close(&mut self, pair: &Pair) -> bool
-        ensures { (s : StackState) (n : StackCounts) → Stands self.old s n → Follows self.new (At pair.now act.Close) s n (IsDone result) }
+        ensures { (s : StackState) (n : StackCounts) → Stands self.old s n
+            → Follows self.new (At pair.now act.Close) s n (IsDone result) }
     {
         self.stack.close(pair)
     }
@@ -57,7 +60,8 @@ impl CountedStack {
     /// The connection of the pair is closed at once, and a RST is sent where the peer may know of it (RFC
     /// 9293, section 3.10.5). False exactly where the pair isn't held.
     pub fn abort(&mut self, pair: &Pair) -> bool
-        ensures { (s : StackState) (n : StackCounts) → Stands self.old s n → Follows self.new (At pair.now act.Abort) s n (IsDone result) }
+        ensures { (s : StackState) (n : StackCounts) → Stands self.old s n
+            → Follows self.new (At pair.now act.Abort) s n (IsDone result) }
     {
         self.stack.abort(pair)
     }

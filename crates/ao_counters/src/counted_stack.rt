@@ -24,7 +24,8 @@ impl CountedStack {
     pub(crate) fn count(&mut self, pair: &Pair, what: Happened)
         ensures stack { self.new.stack ≡ self.old.stack }
         ensures node { self.new.node ≡ counted_by what self.old.node }
-        ensures tallies { Becomes self.old.tallies self.new.tallies pair.now (option_map (changed_by what) (tally_at self.old.tallies pair.now)) }
+        ensures tallies { Becomes self.old.tallies self.new.tallies pair.now
+            (option_map (changed_by what) (tally_at self.old.tallies pair.now)) }
     {
         self.node = counted(self.node, what);
         self.tallies.change(pair, what);

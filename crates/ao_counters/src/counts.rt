@@ -1,6 +1,7 @@
 //! What happened adds to counters and tallies.
 ghost use Rattle.std.specs.Prelude.{◌≡◌};
-ghost use Rattle.book_counters.specs.Counters.{arrival_counted, knock_counted, next_count, no_counters, no_tally, refusal_counted, sending_counted, stray_counted};
+ghost use Rattle.book_counters.specs.Counters.{arrival_counted, knock_counted, next_count, no_counters, no_tally};
+ghost use Rattle.book_counters.specs.Counters.{refusal_counted, sending_counted, stray_counted};
 ghost use Rattle.ao_counters.specs.Counts.{changed_by, counted_by};
 ghost use Rattle.ao_stack.specs.Turns.{act_of};
 

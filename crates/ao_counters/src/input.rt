@@ -41,8 +41,10 @@ impl CountedStack {
     pub fn input<'a>(&mut self, now: u64, bytes: &'a [u8]) -> Heard<'a>
         requires time { now ≤ latest }
         ensures told { (s : StackState) (n : StackCounts) → Stands self.old s n
-            → Follows self.new (Input (record { now = now; bytes = bytes.now })) s n (IsHeard (reading bytes.now) result) }
-        ensures passed { (s : StackState) (n : StackCounts) → Stands self.old s n → PassesAs (clocked now s).stack (reading bytes.now) result }
+            → Follows self.new (Input (record { now = now; bytes = bytes.now })) s n
+            (IsHeard (reading bytes.now) result) }
+        ensures passed { (s : StackState) (n : StackCounts) → Stands self.old s n
+            → PassesAs (clocked now s).stack (reading bytes.now) result }
     {
         match self.stack.input(now, bytes) {
             Heard::Knocks(pair) => {

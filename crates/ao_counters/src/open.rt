@@ -42,7 +42,8 @@ impl CountedStack {
     /// counters are as they were.
     pub fn open(&mut self, alloc: Global, pair: Pair, isn: u32) -> Result<(), NodeRefusal>
         requires family { IsOneFamily pair.local.address pair.remote.address }
-        ensures { (s : StackState) (n : StackCounts) → Stands self.old s n → BeginsAs self.new (At pair (act.Open isn)) s n result }
+        ensures { (s : StackState) (n : StackCounts) → Stands self.old s n
+            → BeginsAs self.new (At pair (act.Open isn)) s n result }
     {
         let before = self.tallies.get(&pair);
         self.tallies.put(&pair)?;
@@ -59,7 +60,8 @@ impl CountedStack {
     /// for `open`.
     pub fn listen(&mut self, alloc: Global, pair: Pair, isn: u32) -> Result<(), NodeRefusal>
         requires family { IsOneFamily pair.local.address pair.remote.address }
-        ensures { (s : StackState) (n : StackCounts) → Stands self.old s n → BeginsAs self.new (At pair (act.Listen isn)) s n result }
+        ensures { (s : StackState) (n : StackCounts) → Stands self.old s n
+            → BeginsAs self.new (At pair (act.Listen isn)) s n result }
     {
         let before = self.tallies.get(&pair);
         self.tallies.put(&pair)?;
@@ -82,7 +84,8 @@ impl CountedStack {
         peer_isn: u32,
     ) -> Result<(), NodeRefusal>
         requires family { IsOneFamily pair.local.address pair.remote.address }
-        ensures { (s : StackState) (n : StackCounts) → Stands self.old s n → BeginsAs self.new (At pair (act.Start isn peer_isn)) s n result }
+        ensures { (s : StackState) (n : StackCounts) → Stands self.old s n
+            → BeginsAs self.new (At pair (act.Start isn peer_isn)) s n result }
     {
         let before = self.tallies.get(&pair);
         self.tallies.put(&pair)?;

@@ -27,7 +27,8 @@ impl CountedStack {
     /// connections go on under the new table. `NoRow` exactly where there is no row of that number; then
     /// the stack is as it was.
     pub fn withdraw(&mut self, number: u8) -> Result<(), NoRow>
-        ensures { (s : StackState) (n : StackCounts) → Stands self.old s n → Follows self.new (Withdraw number) s n (IsWithdrawn result) }
+        ensures { (s : StackState) (n : StackCounts) → Stands self.old s n
+            → Follows self.new (Withdraw number) s n (IsWithdrawn result) }
     {
         self.stack.withdraw(number)
     }

@@ -16,7 +16,8 @@ impl CountedStack {
     /// heard last. `None` exactly where the pair isn't held.
     pub fn counters(&self, pair: &Pair) -> Option<Tally>
         ensures tally { (s : StackState) (n : StackCounts) → Stands self.now s n → result ≡ n.pairs pair.now }
-        ensures held { (s : StackState) (n : StackCounts) → Stands self.now s n → is_some result ≡ is_some (held_end pair.now s.node.ends) }
+        ensures held { (s : StackState) (n : StackCounts) → Stands self.now s n
+            → is_some result ≡ is_some (held_end pair.now s.node.ends) }
     {
         self.tallies.get(pair)
     }
@@ -30,14 +31,16 @@ impl CountedStack {
 
     /// Where the end of the pair stands. `None` exactly where the pair isn't held.
     pub fn front(&self, pair: &Pair) -> Option<Front>
-        ensures { (s : StackState) (n : StackCounts) → Stands self.now s n → result ≡ option_map end_front (held_end pair.now s.node.ends) }
+        ensures { (s : StackState) (n : StackCounts) → Stands self.now s n
+            → result ≡ option_map end_front (held_end pair.now s.node.ends) }
     {
         self.stack.front(pair)
     }
 
     /// Whether the pair is held.
     pub fn holds(&self, pair: &Pair) -> bool
-        ensures { (s : StackState) (n : StackCounts) → Stands self.now s n → result ≡ is_some (held_end pair.now s.node.ends) }
+        ensures { (s : StackState) (n : StackCounts) → Stands self.now s n
+            → result ≡ is_some (held_end pair.now s.node.ends) }
     {
         self.stack.holds(pair)
     }
@@ -55,7 +58,8 @@ impl CountedStack {
     /// 1970, for the user timeout of five minutes while it waits for it (RFC 9293, section 3.9.1.1). False
     /// where the pair isn't held. Nothing is done of itself: its user calls `abort` or waits on.
     pub fn is_overdue(&self, pair: &Pair, now: u64) -> bool
-        ensures { (s : StackState) (n : StackCounts) → Stands self.now s n → result ≡ timed_out now pair.now s (held_end pair.now s.node.ends) }
+        ensures { (s : StackState) (n : StackCounts) → Stands self.now s n
+            → result ≡ timed_out now pair.now s (held_end pair.now s.node.ends) }
     {
         self.stack.is_overdue(pair, now)
     }

@@ -1,5 +1,6 @@
 //! Traffic keys that are kept once they were derived.
-ghost use Rattle.std.specs.Prelude.{◌≡◌, ◌+◌, ◌-◌, ◌<◌, ◌≤◌, ℕ, List, Option, Some, None, length, option_map, replicate, slice_set, IfOk};
+ghost use Rattle.std.specs.Prelude.{◌≡◌, ◌+◌, ◌-◌, ◌<◌, ◌≤◌, ℕ, List, Option, Some, None, length, option_map};
+ghost use Rattle.std.specs.Prelude.{replicate, slice_set, IfOk};
 ghost use Rattle.book_macs.specs.Contexts.{bytes_of};
 ghost use Rattle.book_macs.specs.Keys.{key_length, traffic_key};
 ghost use Rattle.ao_kdf.specs.Cache.{empty, key_at, kept, keeping, IsRight, steps_for};
@@ -55,7 +56,8 @@ fn fill<L: Ledger>(
 )
     requires at { at < length keys.old.items }
     requires right { IsRight (key_at keys.old.items at) (traffic_key algorithm master.now (bytes_of context.now)) }
-    ensures keys { keys.new.items ≡ slice_set keys.old.items at (Some (traffic_key algorithm master.now (bytes_of context.now))) }
+    ensures keys { keys.new.items ≡ slice_set keys.old.items at
+        (Some (traffic_key algorithm master.now (bytes_of context.now))) }
     ensures counted { steps.new ≡ steps.old + steps_for (key_at keys.old.items at) }
 {
     if let Some(_key) = &keys[at] {

@@ -50,7 +50,8 @@ impl Hasher {
 
     /// Feeds the next piece of the message, of any length.
     pub fn feed(&mut self, piece: &[u8])
-        ensures { (algorithm : Algorithm) (key fed : List ℕ) → StandsFor self.old algorithm key fed → StandsFor self.new algorithm key (fed ++ piece.now) }
+        ensures { (algorithm : Algorithm) (key fed : List ℕ) → StandsFor self.old algorithm key fed
+            → StandsFor self.new algorithm key (fed ++ piece.now) }
     {
         match self {
             Hasher::Sha1(hmac) => hmac.update(piece),

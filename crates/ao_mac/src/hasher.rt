@@ -10,8 +10,10 @@ use ao_kdf::Hasher;
 
 /// The MAC of all that was fed.
 pub(crate) fn finish(hasher: Hasher) -> MacBytes
-    ensures mac { (algorithm : Algorithm) (key fed : List ℕ) → StandsFor hasher algorithm key fed → result ≡ mac algorithm key fed }
-    ensures length { (algorithm : Algorithm) (key fed : List ℕ) → StandsFor hasher algorithm key fed → length result ≡ mac_length_of algorithm }
+    ensures mac { (algorithm : Algorithm) (key fed : List ℕ) → StandsFor hasher algorithm key fed
+        → result ≡ mac algorithm key fed }
+    ensures length { (algorithm : Algorithm) (key fed : List ℕ) → StandsFor hasher algorithm key fed
+        → length result ≡ mac_length_of algorithm }
 {
     match hasher {
         Hasher::Sha1(hmac) => MacBytes::front_of(hmac.finish(), 12),

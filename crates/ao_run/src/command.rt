@@ -1,7 +1,8 @@
 //! The command that the words name.
 ghost use Rattle.std.specs.Prelude.{◌≡◌, true};
 ghost use Rattle.book_keys.specs.Times.{time_of};
-ghost use Rattle.book_answer.specs.Commands.{alone_of, command_of, keys_of, lint_command, pcap_of, reads_keys, storm_of, three_of, decimal_up_to, with_keys_of};
+ghost use Rattle.book_answer.specs.Commands.{alone_of, command_of, keys_of, lint_command, pcap_of, reads_keys};
+ghost use Rattle.book_answer.specs.Commands.{storm_of, three_of, decimal_up_to, with_keys_of};
 ghost use Rattle.ao_run.specs.Gathered.{is_ready};
 
 use ao_base::read_decimal;

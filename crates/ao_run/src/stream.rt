@@ -19,7 +19,8 @@ pub(crate) fn check<I: Source, O: Sink>(
     input: &mut I,
     out: &mut O,
 ) -> Result<u8, Stop>
-    ensures { (i : List ℕ) × EndedBehind (check_command form) (Some tables) i (I.side input.old) (I.side input.new) (O.side out.old) (O.side out.new) result }
+    ensures { (i : List ℕ) × EndedBehind (check_command form) (Some tables) i (I.side input.old) (I.side input.new)
+        (O.side out.old) (O.side out.new) result }
 {
     match answer(alloc, tables, form, input, out) {
         Ok(amiss) => Ok(status_of(amiss)),

@@ -24,7 +24,8 @@ fn make_whole<I: Source, O: Sink>(
     out: &mut O,
 ) -> Result<u8, Stop>
     requires { is_ready (Some (whole_command whole)) ≡ true }
-    ensures { (i : List ℕ) × EndedBehind (whole_command whole) (whole_tables whole) i (I.side input.old) (I.side input.new) (O.side out.old) (O.side out.new) result }
+    ensures { (i : List ℕ) × EndedBehind (whole_command whole) (whole_tables whole) i (I.side input.old)
+        (I.side input.new) (O.side out.old) (O.side out.new) result }
 {
     let output = match gather(alloc, whole, input) {
         Ok(output) => output,
@@ -44,7 +45,8 @@ fn do_job<I: Source, O: Sink>(
     out: &mut O,
 ) -> Result<u8, Stop>
     requires { is_ready (Some (job_command job)) ≡ true }
-    ensures { (i : List ℕ) × EndedBehind (job_command job) (job_tables job) i (I.side input.old) (I.side input.new) (O.side out.old) (O.side out.new) result }
+    ensures { (i : List ℕ) × EndedBehind (job_command job) (job_tables job) i (I.side input.old) (I.side input.new)
+        (O.side out.old) (O.side out.new) result }
 {
     match job {
         Job::Whole(whole) => make_whole(alloc, whole, input, out),
@@ -88,9 +90,9 @@ fn act<K: Source, I: Source, O: Sink>(
 /// | status | comes | text for `err` |
 /// |---|---|---|
 /// | 0 | done | none |
-/// | 1 | done, with something amiss in the output: a forgery, a vector that differs, a connection that isn't aligned, a segment that is no pass | none |
+/// | 1 | done, with a forgery, a vector that differs, a connection not aligned, or a segment that is no pass | none |
 /// | 2 | exactly where the words are in no command's form; nothing is read | the usage |
-/// | 3 | exactly where the key file isn't one of valid tables, or has over 1,048,576 bytes; the input isn't read | `keys: ..` |
+/// | 3 | exactly where the key file has a fault, or over 1,048,576 bytes; the input isn't read | `keys: ..` |
 /// | 4 | exactly where the input isn't in the command's grammar, or is over its limit | `input: ..` |
 /// | 5 | only where a source that is read failed | `read fault` |
 /// | 6 | only where `out` failed; a proper front part of the output was written | `write fault` |

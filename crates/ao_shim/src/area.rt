@@ -2,7 +2,8 @@
 ghost use Rattle.std.specs.Prelude.{◌≡◌, ◌+◌, ◌≤◌, ◌++◌, ◌∷◌, List, ℕ, [], length, take};
 ghost use Rattle.tcp_options.specs.Views.{view_opt};
 ghost use Rattle.book_segments.specs.Bytes.{put2};
-ghost use Rattle.book_shim.specs.Relaying.{spelled, sack, going, is_left_out, coming, with_mss, in_words, lowered as mss_lowered};
+ghost use Rattle.book_shim.specs.Relaying.{spelled, sack, going, is_left_out, coming, with_mss, in_words};
+ghost use Rattle.book_shim.specs.Relaying.lowered as mss_lowered;
 ghost use Rattle.ao_shim.specs.Puts.{Puts};
 
 use book_shim::Trim;

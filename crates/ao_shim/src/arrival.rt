@@ -37,7 +37,8 @@ fn judged_syn<'a, L: Ledger>(
     requires syn { has SYN datagram.now ≡ true }
     requires source { datagram.now.source ≡ pair.now.remote }
     requires destination { datagram.now.destination ≡ pair.now.local }
-    ensures verdict { (mtu : ℕ) → Tells table.now.rows pair.now datagram.now (verdict_of result) (judged_arrival (record { rows = table.now.rows; now = now; mtu = mtu }) pair.now kept.now datagram.now) }
+    ensures verdict { (mtu : ℕ) → Tells table.now.rows pair.now datagram.now (verdict_of result)
+        (judged_arrival (record { rows = table.now.rows; now = now; mtu = mtu }) pair.now kept.now datagram.now) }
     ensures option { IfOk result (λ p. find_ao datagram.now.area ≡ One (view_ao p.option)) }
     ensures refusal { IfErr result (λ v. IsRefusal v) }
     ensures most { steps.new ≤ steps.old + 1 }
@@ -65,12 +66,15 @@ fn judged_later<'a, L: Ledger>(
     requires syn { has SYN datagram.now ≡ false }
     requires source { datagram.now.source ≡ pair.now.remote }
     requires destination { datagram.now.destination ≡ pair.now.local }
-    ensures verdict { (mtu : ℕ) → Tells table.now.rows pair.now datagram.now (verdict_of result) (judged_arrival (record { rows = table.now.rows; now = now; mtu = mtu }) pair.now kept.now datagram.now) }
+    ensures verdict { (mtu : ℕ) → Tells table.now.rows pair.now datagram.now (verdict_of result)
+        (judged_arrival (record { rows = table.now.rows; now = now; mtu = mtu }) pair.now kept.now datagram.now) }
     ensures option { IfOk result (λ p. find_ao datagram.now.area ≡ One (view_ao p.option)) }
     ensures refusal { IfErr result (λ v. IsRefusal v) }
     ensures suits { Suits table.now.rows (record { pair = pair.now; kept = kept.now; keys = keys.new }) }
     ensures rows { keys.new.rows ≡ keys.old.rows }
-    ensures counted { (b : Bool) × Counted keys.old keys.new (judging table.now.rows pair.now now (find_ao datagram.now.area)) b Inbound false steps.old steps.new }
+    ensures counted { (b : Bool)
+        × Counted keys.old keys.new (judging table.now.rows pair.now now (find_ao datagram.now.area)) b Inbound false
+        steps.old steps.new }
 {
     match kept.isns {
         None => check_under(keys, pair, 0, None, table, now, None, datagram, steps),
@@ -102,14 +106,16 @@ pub(crate) fn judged<'a, L: Ledger>(
     requires heard { kept.now.heard ≤ 2 ^ 63 }
     requires source { datagram.now.source ≡ pair.now.remote }
     requires destination { datagram.now.destination ≡ pair.now.local }
-    ensures verdict { (mtu : ℕ) → Tells table.now.rows pair.now datagram.now (verdict_of result) (judged_arrival (record { rows = table.now.rows; now = now; mtu = mtu }) pair.now kept.now datagram.now) }
+    ensures verdict { (mtu : ℕ) → Tells table.now.rows pair.now datagram.now (verdict_of result)
+        (judged_arrival (record { rows = table.now.rows; now = now; mtu = mtu }) pair.now kept.now datagram.now) }
     ensures option { IfOk result (λ p. find_ao datagram.now.area ≡ One (view_ao p.option)) }
     ensures refusal { IfErr result (λ v. IsRefusal v) }
     ensures suits { Suits table.now.rows (record { pair = pair.now; kept = kept.now; keys = keys.new }) }
     ensures rows { keys.new.rows ≡ keys.old.rows }
     ensures most { steps.new ≤ steps.old + 1 }
     ensures counted { has SYN datagram.now ≡ false
-        → (b : Bool) × Counted keys.old keys.new (judging table.now.rows pair.now now (find_ao datagram.now.area)) b Inbound false steps.old steps.new }
+        → (b : Bool) × Counted keys.old keys.new (judging table.now.rows pair.now now (find_ao datagram.now.area)) b
+        Inbound false steps.old steps.new }
 {
     if datagram.has(Flag::Syn) {
         judged_syn(pair, kept, table, now, datagram, steps)
@@ -129,7 +135,10 @@ pub(crate) fn heard(
     rnext: u8,
 ) -> Kept
     requires { number ≤ 2 ^ 63 }
-    ensures { result ≡ record (past_heard (admitted before.now datagram.now) datagram.now number) { current = row_heard table.now.rows pair.now now before.now datagram.now number rnext } }
+    ensures { result
+        ≡ record (past_heard (admitted before.now datagram.now) datagram.now number) {
+          current = row_heard table.now.rows pair.now now before.now datagram.now number rnext;
+        } }
 {
     let joined = admitted(before, datagram);
     let heard = past_heard(&joined, datagram, number);

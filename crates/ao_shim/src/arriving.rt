@@ -36,14 +36,18 @@ pub(crate) fn opened<L: Ledger>(
     requires suits { Suits table.now.rows (record { pair = pair.now; kept = before.now; keys = keys.old }) }
     requires low { AreLow before.now }
     requires room { length bytes.now ≤ length out.old }
-    ensures taken { IfOk result (λ r. Taken (record { rows = table.now.rows; now = now; mtu = mtu }) pair.now before.now r.1 bytes.now out.old out.new r.0) }
+    ensures taken { IfOk result (λ r. Taken (record { rows = table.now.rows; now = now; mtu = mtu }) pair.now
+        before.now r.1 bytes.now out.old out.new r.0) }
     ensures low { IfOk result (λ r. AreLow r.1) }
     ensures suits { IfOk result (λ r. Suits table.now.rows (record { pair = pair.now; kept = r.1; keys = keys.new })) }
-    ensures still { OnErr result (Suits table.now.rows (record { pair = pair.now; kept = before.now; keys = keys.new })) }
-    ensures refused { IfErr result (λ why. inbound (record { rows = table.now.rows; now = now; mtu = mtu }) pair.now before.now bytes.now ≡ Err why) }
+    ensures still { OnErr result
+        (Suits table.now.rows (record { pair = pair.now; kept = before.now; keys = keys.new })) }
+    ensures refused { IfErr result (λ why. inbound (record { rows = table.now.rows; now = now; mtu = mtu }) pair.now
+        before.now bytes.now ≡ Err why) }
     ensures unchanged { OnErr result (out.new ≡ out.old) }
     ensures counted { (d : Segment) → reading bytes.now ≡ Read d → has SYN d ≡ false
-        → (b : Bool) × Counted keys.old keys.new (judging table.now.rows pair.now now (find_ao d.area)) b Inbound false steps.old steps.new }
+        → (b : Bool) × Counted keys.old keys.new (judging table.now.rows pair.now now (find_ao d.area)) b Inbound false
+        steps.old steps.new }
     ensures most { steps.new ≤ steps.old + 1 }
     ensures rows { keys.new.rows ≡ keys.old.rows }
 {

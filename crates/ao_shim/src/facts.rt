@@ -37,7 +37,13 @@ pub(crate) fn is_signed(options: &Options<'_>) -> bool
 
 /// The context with these initial sequence numbers.
 fn between(datagram: &Datagram<'_>, source_isn: u32, dest_isn: u32) -> Context
-    ensures { result ≡ record { source = datagram.now.source; destination = datagram.now.destination; source_isn = source_isn; dest_isn = dest_isn } }
+    ensures { result
+        ≡ record {
+          source = datagram.now.source;
+          destination = datagram.now.destination;
+          source_isn = source_isn;
+          dest_isn = dest_isn;
+        } }
 {
     Context {
         source: datagram.source(),

@@ -66,7 +66,8 @@ impl Guard {
     pub fn resume(&mut self, pair: Pair, isns: Isns, sent: u64, heard: u64, current: Option<u8>)
         requires sent { sent ≤ 2 ^ 63 }
         requires heard { heard ≤ 2 ^ 63 }
-        ensures resumed { self.new ≡ record { pair = pair; kept = resumed isns sent heard current; keys = empty self.old.keys.rows } }
+        ensures resumed { self.new
+            ≡ record { pair = pair; kept = resumed isns sent heard current; keys = empty self.old.keys.rows } }
         ensures suits { (table : List Row) → length table ≤ self.old.keys.rows → Suits table self.new }
     {
         self.pair = pair;

@@ -35,14 +35,17 @@ impl Guard {
     ) -> Result<usize, Untaken>
         requires suits { Suits table.now.rows self.old }
         requires room { length bytes.now ≤ length out.old }
-        ensures taken { IfOk result (λ n. Taken (record { rows = table.now.rows; now = now; mtu = mtu }) self.old.pair self.old.kept self.new.kept bytes.now out.old out.new n) }
-        ensures refused { IfErr result (λ why. inbound (record { rows = table.now.rows; now = now; mtu = mtu }) self.old.pair self.old.kept bytes.now ≡ Err why) }
+        ensures taken { IfOk result (λ n. Taken (record { rows = table.now.rows; now = now; mtu = mtu }) self.old.pair
+            self.old.kept self.new.kept bytes.now out.old out.new n) }
+        ensures refused { IfErr result (λ why. inbound (record { rows = table.now.rows; now = now; mtu = mtu })
+            self.old.pair self.old.kept bytes.now ≡ Err why) }
         ensures unchanged { OnErr result ((self.new.kept ≡ self.old.kept) × (out.new ≡ out.old)) }
         ensures pair { self.new.pair ≡ self.old.pair }
         ensures suits { Suits table.now.rows self.new }
         ensures rows { self.new.keys.rows ≡ self.old.keys.rows }
         ensures counted { (d : Segment) → reading bytes.now ≡ Read d → has SYN d ≡ false
-            → (b : Bool) × Counted self.old.keys self.new.keys (judging table.now.rows self.old.pair now (find_ao d.area)) b Inbound false steps.old steps.new }
+            → (b : Bool) × Counted self.old.keys self.new.keys
+            (judging table.now.rows self.old.pair now (find_ao d.area)) b Inbound false steps.old steps.new }
         ensures most { steps.new ≤ steps.old + 1 }
     {
         let pair = self.pair;

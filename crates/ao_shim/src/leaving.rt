@@ -23,7 +23,9 @@ use tcp_segment::read_datagram;
 pub(crate) fn renew(keys: &mut KeyCache, before: &Kept, after: &Kept)
     ensures keys { before.now.isns ≡ after.now.isns → keys.new ≡ keys.old }
     ensures rows { keys.new.rows ≡ keys.old.rows }
-    ensures suits { (table : List Row) (pair : Sockets) → Suits table (record { pair = pair; kept = before.now; keys = keys.old }) → Suits table (record { pair = pair; kept = after.now; keys = keys.new }) }
+    ensures suits { (table : List Row) (pair : Sockets) → Suits table
+        (record { pair = pair; kept = before.now; keys = keys.old })
+        → Suits table (record { pair = pair; kept = after.now; keys = keys.new }) }
 {
     if !is_same_connection(before, after) {
         keys.forget();
@@ -44,12 +46,15 @@ pub(crate) fn sealed<L: Ledger>(
     requires suits { Suits table.now.rows (record { pair = pair.now; kept = before.now; keys = keys.old }) }
     requires low { AreLow before.now }
     requires room { length bytes.now + 20 ≤ length out.old }
-    ensures sent { IfOk result (λ r. (mtu : ℕ) → Sent (record { rows = table.now.rows; now = now; mtu = mtu }) pair.now before.now r.1 bytes.now out.old out.new r.0) }
+    ensures sent { IfOk result (λ r. (mtu : ℕ) → Sent (record { rows = table.now.rows; now = now; mtu = mtu }) pair.now
+        before.now r.1 bytes.now out.old out.new r.0) }
     ensures low { IfOk result (λ r. AreLow r.1) }
     ensures suits { IfOk result (λ r. Suits table.now.rows (record { pair = pair.now; kept = r.1; keys = keys.new })) }
-    ensures refused { IfErr result (λ why. (mtu : ℕ) → outbound (record { rows = table.now.rows; now = now; mtu = mtu }) pair.now before.now bytes.now ≡ Err why) }
+    ensures refused { IfErr result (λ why. (mtu : ℕ) → outbound
+        (record { rows = table.now.rows; now = now; mtu = mtu }) pair.now before.now bytes.now ≡ Err why) }
     ensures unchanged { OnErr result ((keys.new ≡ keys.old) × (out.new ≡ out.old) × (steps.new ≡ steps.old)) }
-    ensures counted { (mtu : ℕ) (m : Sealed) → outbound (record { rows = table.now.rows; now = now; mtu = mtu }) pair.now before.now bytes.now ≡ Ok m
+    ensures counted { (mtu : ℕ) (m : Sealed) → outbound (record { rows = table.now.rows; now = now; mtu = mtu })
+        pair.now before.now bytes.now ≡ Ok m
         → steps.new ≡ steps.old + sealing_steps before.now keys.old m }
     ensures most { steps.new ≤ steps.old + 1 }
     ensures rows { keys.new.rows ≡ keys.old.rows }

@@ -28,13 +28,16 @@ impl Guard {
     ) -> Result<usize, Unsent>
         requires suits { Suits table.now.rows self.old }
         requires room { length bytes.now + 20 ≤ length out.old }
-        ensures sent { IfOk result (λ n. (mtu : ℕ) → Sent (record { rows = table.now.rows; now = now; mtu = mtu }) self.old.pair self.old.kept self.new.kept bytes.now out.old out.new n) }
-        ensures refused { IfErr result (λ why. (mtu : ℕ) → outbound (record { rows = table.now.rows; now = now; mtu = mtu }) self.old.pair self.old.kept bytes.now ≡ Err why) }
+        ensures sent { IfOk result (λ n. (mtu : ℕ) → Sent (record { rows = table.now.rows; now = now; mtu = mtu })
+            self.old.pair self.old.kept self.new.kept bytes.now out.old out.new n) }
+        ensures refused { IfErr result (λ why. (mtu : ℕ) → outbound
+            (record { rows = table.now.rows; now = now; mtu = mtu }) self.old.pair self.old.kept bytes.now ≡ Err why) }
         ensures unchanged { OnErr result ((self.new ≡ self.old) × (out.new ≡ out.old) × (steps.new ≡ steps.old)) }
         ensures pair { self.new.pair ≡ self.old.pair }
         ensures suits { Suits table.now.rows self.new }
         ensures rows { self.new.keys.rows ≡ self.old.keys.rows }
-        ensures counted { (mtu : ℕ) (m : Sealed) → outbound (record { rows = table.now.rows; now = now; mtu = mtu }) self.old.pair self.old.kept bytes.now ≡ Ok m
+        ensures counted { (mtu : ℕ) (m : Sealed) → outbound (record { rows = table.now.rows; now = now; mtu = mtu })
+            self.old.pair self.old.kept bytes.now ≡ Ok m
             → steps.new ≡ steps.old + sealing_steps self.old.kept self.old.keys m }
         ensures most { steps.new ≤ steps.old + 1 }
     {

@@ -1,5 +1,6 @@
 //! What a datagram of the own kernel is to be sealed with.
-ghost use Rattle.std.specs.Prelude.{◌≡◌, ◌+◌, ◌≤◌, ◌^◌, ◌∷◌, ◌++◌, [], ℕ, true, List, ◌-◌, Some, length, replicate, slice_get, IfOk, IfErr, Err};
+ghost use Rattle.std.specs.Prelude.{◌≡◌, ◌+◌, ◌≤◌, ◌^◌, ◌∷◌, ◌++◌, [], ℕ, true, List, ◌-◌, Some, length, replicate};
+ghost use Rattle.std.specs.Prelude.{slice_get, IfOk, IfErr, Err};
 ghost use Rattle.book_base.specs.Algorithms.{mac_length_of as mac_length_by};
 ghost use Rattle.book_keys.specs.Rows.{Row};
 ghost use Rattle.book_segments.specs.Segments.{Read, reading};
@@ -91,7 +92,8 @@ pub(crate) fn planned(
     requires sent { before.now.sent ≤ 2 ^ 63 }
     requires heard { before.now.heard ≤ 2 ^ 63 }
     ensures planned { IfOk result (λ p. IsPlanned table.now.rows now pair.now before.now datagram.now p) }
-    ensures refused { IfErr result (λ why. (mtu : ℕ) → send_sealed (record { rows = table.now.rows; now = now; mtu = mtu }) pair.now before.now datagram.now ≡ Err why) }
+    ensures refused { IfErr result (λ why. (mtu : ℕ) → send_sealed
+        (record { rows = table.now.rows; now = now; mtu = mtu }) pair.now before.now datagram.now ≡ Err why) }
 {
     let options = datagram.options();
     if is_signed(&options) {

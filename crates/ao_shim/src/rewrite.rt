@@ -1,7 +1,8 @@
 //! The options of a segment, written anew.
 ghost use Rattle.std.specs.Prelude.{◌≡◌, ◌≤◌, ◌<◌, length, IfSome, IfNone};
 ghost use Rattle.book_segments.specs.Options.{AreListed, options_of};
-ghost use Rattle.book_shim.specs.Relaying.{going as gone, coming as come, rewritten, if_room, packed_in, fitted_from, fitted, coming_area};
+ghost use Rattle.book_shim.specs.Relaying.{going as gone, coming as come, rewritten, if_room, packed_in};
+ghost use Rattle.book_shim.specs.Relaying.{fitted_from, fitted, coming_area};
 
 use crate::area::Area;
 use book_shim::Trim;

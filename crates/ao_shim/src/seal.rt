@@ -51,14 +51,21 @@ fn code_of<L: Ledger>(
     requires high { plan.now.sending.row ≤ length table.now.rows }
     requires room { plan.now.sending.row ≤ keys.old.rows }
     requires laid { HasOne laid.now }
-    requires kept { (r : Row) → slice_get table.now.rows (plan.now.sending.row - 1) ≡ Some r → once ≡ false → IsRight (kept keys.old plan.now.sending.row Outbound) (traffic_key r.algorithm r.master (bytes_of plan.now.context)) }
-    ensures mac { (r : Row) (d : Segment) → slice_get table.now.rows (plan.now.sending.row - 1) ≡ Some r → reading laid.now ≡ Read d
-        → IsMacOf result r.algorithm (traffic_key r.algorithm r.master (bytes_of plan.now.context)) (plan.now.number / ring) d r.with_options }
-    ensures length { (r : Row) → slice_get table.now.rows (plan.now.sending.row - 1) ≡ Some r → length result ≡ mac_length_of r.algorithm }
+    requires kept { (r : Row) → slice_get table.now.rows (plan.now.sending.row - 1) ≡ Some r → once ≡ false
+        → IsRight (kept keys.old plan.now.sending.row Outbound)
+        (traffic_key r.algorithm r.master (bytes_of plan.now.context)) }
+    ensures mac { (r : Row) (d : Segment) → slice_get table.now.rows (plan.now.sending.row - 1) ≡ Some r
+        → reading laid.now ≡ Read d
+        → IsMacOf result r.algorithm (traffic_key r.algorithm r.master (bytes_of plan.now.context))
+        (plan.now.number / ring) d r.with_options }
+    ensures length { (r : Row) → slice_get table.now.rows (plan.now.sending.row - 1) ≡ Some r
+        → length result ≡ mac_length_of r.algorithm }
     ensures keys { (r : Row) → slice_get table.now.rows (plan.now.sending.row - 1) ≡ Some r
-        → keys.new ≡ keys_after once keys.old plan.now.sending.row Outbound (traffic_key r.algorithm r.master (bytes_of plan.now.context)) }
+        → keys.new ≡ keys_after once keys.old plan.now.sending.row Outbound
+        (traffic_key r.algorithm r.master (bytes_of plan.now.context)) }
     ensures kept { (r : Row) → slice_get table.now.rows (plan.now.sending.row - 1) ≡ Some r → once ≡ false
-        → kept keys.new plan.now.sending.row Outbound ≡ Some (traffic_key r.algorithm r.master (bytes_of plan.now.context)) }
+        → kept keys.new plan.now.sending.row Outbound
+        ≡ Some (traffic_key r.algorithm r.master (bytes_of plan.now.context)) }
     ensures counted { steps.new ≡ steps.old + steps_of once (kept keys.old plan.now.sending.row Outbound) }
 {
     let number = plan.sending.row;
@@ -112,14 +119,20 @@ pub(crate) fn seal<L: Ledger>(
 ) -> usize
     requires read { reading bytes.now ≡ Read datagram.now }
     requires ready { IsReady table.now.rows datagram.now plan.now }
-    requires key { (r : Row) → slice_get table.now.rows (plan.now.sending.row - 1) ≡ Some r → HasKey keys.old datagram.now plan.now r }
+    requires key { (r : Row) → slice_get table.now.rows (plan.now.sending.row - 1) ≡ Some r
+        → HasKey keys.old datagram.now plan.now r }
     requires room { length bytes.now + 20 ≤ length out.old }
-    ensures written { (r : IsReady table.now.rows datagram.now plan.now) → Written (spell (sealed_by datagram.now plan.now r.s)) out.old out.new result }
+    ensures written { (r : IsReady table.now.rows datagram.now plan.now)
+        → Written (spell (sealed_by datagram.now plan.now r.s)) out.old out.new result }
     ensures keys { (r : Row) → slice_get table.now.rows (plan.now.sending.row - 1) ≡ Some r
-        → keys.new ≡ keys_after (book_is_single_use plan.now.kept datagram.now) keys.old plan.now.sending.row Outbound (traffic_key r.algorithm r.master (bytes_of plan.now.context)) }
-    ensures kept { (r : Row) → slice_get table.now.rows (plan.now.sending.row - 1) ≡ Some r → book_is_single_use plan.now.kept datagram.now ≡ false
-        → kept keys.new plan.now.sending.row Outbound ≡ Some (traffic_key r.algorithm r.master (bytes_of plan.now.context)) }
-    ensures counted { steps.new ≡ steps.old + steps_of (book_is_single_use plan.now.kept datagram.now) (kept keys.old plan.now.sending.row Outbound) }
+        → keys.new ≡ keys_after (book_is_single_use plan.now.kept datagram.now) keys.old plan.now.sending.row Outbound
+        (traffic_key r.algorithm r.master (bytes_of plan.now.context)) }
+    ensures kept { (r : Row) → slice_get table.now.rows (plan.now.sending.row - 1) ≡ Some r
+        → book_is_single_use plan.now.kept datagram.now ≡ false
+        → kept keys.new plan.now.sending.row Outbound
+        ≡ Some (traffic_key r.algorithm r.master (bytes_of plan.now.context)) }
+    ensures counted { steps.new ≡ steps.old + steps_of (book_is_single_use plan.now.kept datagram.now)
+        (kept keys.old plan.now.sending.row Outbound) }
 {
     let once = is_single_use(&plan.kept, datagram);
     let blank = with_ao(&plan.fitted, plan.sending, zeros(plan.mac_length));

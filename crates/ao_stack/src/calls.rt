@@ -30,7 +30,8 @@ impl Stack {
 
     /// What follows where a piece was given to the end of the pair, or wasn't.
     fn follow_given(&mut self, pair: &Pair, answer: GiveAnswer)
-        ensures { (s : StackState) (piece : List ℕ) → Stands self.old s → Stands self.new (kept pair.now (act.Give piece) (given_as answer) s) }
+        ensures { (s : StackState) (piece : List ℕ) → Stands self.old s
+            → Stands self.new (kept pair.now (act.Give piece) (given_as answer) s) }
     {
         match answer {
             GiveAnswer::Ok => self.touch(pair),
@@ -42,7 +43,8 @@ impl Stack {
     /// A piece is given to the connection of the pair, to be sent (RFC 9293, section 3.10.2): all of it
     /// or, after a refusal, nothing. `None` exactly where the pair isn't held.
     pub fn give(&mut self, pair: &Pair, piece: &[u8]) -> Option<GiveAnswer>
-        ensures { (s : StackState) → Stands self.old s → Follows self.new (At pair.now (act.Give piece.now)) s (IsGiven result) }
+        ensures { (s : StackState) → Stands self.old s → Follows self.new (At pair.now (act.Give piece.now)) s
+            (IsGiven result) }
     {
         match self.ends.give(pair, piece) {
             None => None,

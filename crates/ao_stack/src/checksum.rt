@@ -34,7 +34,8 @@ fn sum_place(address: &Address) -> usize
 /// Two bytes that are zero become ffff.
 fn replace(room: &mut [u8], place: usize)
     requires { place + 1 < length room.old }
-    ensures { (n : ℕ) (front back : List ℕ) (c : ℕ) → length front ≡ place → c ≤ 65535 → take n room.old ≡ front ++ put2 c back
+    ensures { (n : ℕ) (front back : List ℕ) (c : ℕ) → length front ≡ place → c ≤ 65535
+        → take n room.old ≡ front ++ put2 c back
         → take n room.new ≡ front ++ put2 (sum_handed c) back }
 {
     if room[place] != 0 {

@@ -77,7 +77,8 @@ fn is_free(front: Option<Front>) -> bool
 /// Whether a segment that is such a SYN or isn't asks for a connection, where the end of its pair stands
 /// so.
 fn asks_anew(alone: bool, front: Option<Front>) -> bool
-    ensures asks { (d : Segment) (held : Option EndState) → alone ≡ (syn_alone d && good d) → front ≡ option_map end_front held → result ≡ asks d held }
+    ensures asks { (d : Segment) (held : Option EndState) → alone ≡ (syn_alone d && good d)
+        → front ≡ option_map end_front held → result ≡ asks d held }
     ensures only { result ≡ true → alone ≡ true }
 {
     alone && is_free(front)
@@ -114,7 +115,8 @@ impl Stack {
     fn follow(&mut self, pair: &Pair, now: u64, before: Front, arrival: Arrival) -> bool
         requires { now ≤ latest }
         ensures stands { (s : StackState) (e : EndState) → Stands self.old s → held_end pair.now s.node.ends ≡ Some e
-            → Stands self.new (after_segment_heard now pair.now arrival (record { before = before; after = end_front e }) s) }
+            → Stands self.new (after_segment_heard now pair.now arrival
+            (record { before = before; after = end_front e }) s) }
         ensures moved { (s : StackState) (e : EndState) → Stands self.old s → held_end pair.now s.node.ends ≡ Some e
             → result ≡ moves_on (record { before = before; after = end_front e }) }
     {
@@ -132,9 +134,12 @@ impl Stack {
     /// connection on.
     fn follow_told(&mut self, pair: &Pair, now: u64, before: Front, told: &NodeArrival<'_>) -> bool
         requires { now ≤ latest }
-        ensures stands { (s : StackState) (e : EndState) (p : OnePair) (arrived : OneArrived) → Stands self.old s → held_end pair.now s.node.ends ≡ Some e → told.now ≡ At p arrived
-            → Stands self.new (after_segment_heard now pair.now arrived.arrival (record { before = before; after = end_front e }) s) }
-        ensures moved { (s : StackState) (e : EndState) (p : OnePair) (arrived : OneArrived) → Stands self.old s → held_end pair.now s.node.ends ≡ Some e → told.now ≡ At p arrived
+        ensures stands { (s : StackState) (e : EndState) (p : OnePair) (arrived : OneArrived) → Stands self.old s
+            → held_end pair.now s.node.ends ≡ Some e → told.now ≡ At p arrived
+            → Stands self.new (after_segment_heard now pair.now arrived.arrival
+            (record { before = before; after = end_front e }) s) }
+        ensures moved { (s : StackState) (e : EndState) (p : OnePair) (arrived : OneArrived) → Stands self.old s
+            → held_end pair.now s.node.ends ≡ Some e → told.now ≡ At p arrived
             → result ≡ moves_on (record { before = before; after = end_front e }) }
     {
         match told {
@@ -153,8 +158,11 @@ impl Stack {
         steps: &mut Steps<L>,
     ) -> Heard<'a>
         requires time { now ≤ latest }
-        ensures told { (s : StackState) (bytes : List ℕ) → Stands self.old s → reading bytes ≡ Read datagram.now → pair.now ≡ pair_reached datagram.now
-            → Does self.new (IsHeard (Read datagram.now) result) (heard_pair (record { now = now; bytes = bytes }) (pair_reached datagram.now) datagram.now s (held_end (pair_reached datagram.now) s.node.ends)) }
+        ensures told { (s : StackState) (bytes : List ℕ) → Stands self.old s → reading bytes ≡ Read datagram.now
+            → pair.now ≡ pair_reached datagram.now
+            → Does self.new (IsHeard (Read datagram.now) result)
+            (heard_pair (record { now = now; bytes = bytes }) (pair_reached datagram.now) datagram.now s
+            (held_end (pair_reached datagram.now) s.node.ends)) }
         ensures passed { (s : StackState) → Stands self.old s → PassesAs s (Read datagram.now) result }
         ensures costs { CostsHeard datagram.now result steps.old steps.new }
         ensures steps { steps.new ≤ steps.old + 66 }
@@ -181,9 +189,12 @@ impl Stack {
         steps: &mut Steps<L>,
     ) -> Heard<'a>
         requires time { now ≤ latest }
-        ensures told { (s : StackState) (bytes : List ℕ) → Stands self.old s → reading bytes ≡ Read datagram.now → pair.now ≡ pair_reached datagram.now
+        ensures told { (s : StackState) (bytes : List ℕ) → Stands self.old s → reading bytes ≡ Read datagram.now
+            → pair.now ≡ pair_reached datagram.now
             → front ≡ option_map end_front (held_end (pair_reached datagram.now) s.node.ends)
-            → Does self.new (IsHeard (Read datagram.now) result) (asked_for (record { now = now; bytes = bytes }) datagram.now s (held_end (pair_reached datagram.now) s.node.ends) (Err why)) }
+            → Does self.new (IsHeard (Read datagram.now) result)
+            (asked_for (record { now = now; bytes = bytes }) datagram.now s
+            (held_end (pair_reached datagram.now) s.node.ends) (Err why)) }
         ensures passed { (s : StackState) → Stands self.old s → PassesAs s (Read datagram.now) result }
         ensures costs { CostsHeard datagram.now result steps.old steps.new }
         ensures steps { steps.new ≤ steps.old + 66 }
@@ -223,9 +234,12 @@ impl Stack {
         requires reached { pair.now ≡ pair_reached datagram.now }
         requires asks { asks ≡ (syn_alone datagram.now && good datagram.now) }
         ensures told { (s : StackState) (bytes : List ℕ) → Stands self.old s → reading bytes ≡ Read datagram.now
-            → Does self.new (IsHeard (Read datagram.now) result) (met (record { now = now; bytes = bytes }) datagram.now s (held_end (pair_reached datagram.now) s.node.ends)) }
+            → Does self.new (IsHeard (Read datagram.now) result)
+            (met (record { now = now; bytes = bytes }) datagram.now s
+            (held_end (pair_reached datagram.now) s.node.ends)) }
         ensures passed { (s : StackState) → Stands self.old s → PassesAs s (Read datagram.now) result }
-        ensures costs { (s : StackState) → Stands self.old s → CostsInput s (Read datagram.now) result steps.old steps.new }
+        ensures costs { (s : StackState) → Stands self.old s → CostsInput s (Read datagram.now) result steps.old
+            steps.new }
         ensures steps { steps.new ≤ steps.old + 67 }
     {
         let front = self.ends.front(pair);
@@ -255,9 +269,12 @@ impl Stack {
     ) -> Heard<'a>
         requires time { now ≤ latest }
         ensures told { (s : StackState) → Stands self.old s
-            → Follows self.new (Input (record { now = now; bytes = bytes.now })) s (IsHeard (reading bytes.now) result) }
-        ensures passed { (s : StackState) → Stands self.old s → PassesAs (clocked now s).stack (reading bytes.now) result }
-        ensures costs { (s : StackState) → Stands self.old s → CostsInput (clocked now s).stack (reading bytes.now) result steps.old steps.new }
+            → Follows self.new (Input (record { now = now; bytes = bytes.now })) s
+            (IsHeard (reading bytes.now) result) }
+        ensures passed { (s : StackState) → Stands self.old s
+            → PassesAs (clocked now s).stack (reading bytes.now) result }
+        ensures costs { (s : StackState) → Stands self.old s → CostsInput (clocked now s).stack (reading bytes.now)
+            result steps.old steps.new }
         ensures steps { steps.new ≤ steps.old + 67 }
     {
         self.set_clock(now);
@@ -281,8 +298,10 @@ impl Stack {
         requires part { 0 < blank.parts }
         requires time { now ≤ latest }
         ensures told { (s : StackState) → Stands self.old s
-            → Follows self.new (Input (record { now = now; bytes = bytes.now })) s (IsHeard (reading bytes.now) result) }
-        ensures passed { (s : StackState) → Stands self.old s → PassesAs (clocked now s).stack (reading bytes.now) result }
+            → Follows self.new (Input (record { now = now; bytes = bytes.now })) s
+            (IsHeard (reading bytes.now) result) }
+        ensures passed { (s : StackState) → Stands self.old s
+            → PassesAs (clocked now s).stack (reading bytes.now) result }
     {
         let mut steps = Steps::<L>::new(blank);
         self.input_counted(now, bytes, &mut steps)
@@ -292,8 +311,10 @@ impl Stack {
     pub fn input<'a>(&mut self, now: u64, bytes: &'a [u8]) -> Heard<'a>
         requires time { now ≤ latest }
         ensures told { (s : StackState) → Stands self.old s
-            → Follows self.new (Input (record { now = now; bytes = bytes.now })) s (IsHeard (reading bytes.now) result) }
-        ensures passed { (s : StackState) → Stands self.old s → PassesAs (clocked now s).stack (reading bytes.now) result }
+            → Follows self.new (Input (record { now = now; bytes = bytes.now })) s
+            (IsHeard (reading bytes.now) result) }
+        ensures passed { (s : StackState) → Stands self.old s
+            → PassesAs (clocked now s).stack (reading bytes.now) result }
     {
         self.hear_bytes::<Brand>(Blank::new(1), now, bytes)
     }

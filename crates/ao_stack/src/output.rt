@@ -52,7 +52,8 @@ impl Stack {
     fn follow_asked(&mut self, pair: &Pair, now: u64, spoken: &Spoken)
         requires { now ≤ latest }
         ensures { (s : StackState) → Stands self.old s → is_some (held_end pair.now s.node.ends) ≡ true
-            → Stands self.new (asked_turn pair.now spoken.now.says (watched pair.now (asked_by now spoken.now (s.watches pair.now)) s)) }
+            → Stands self.new (asked_turn pair.now spoken.now.says
+            (watched pair.now (asked_by now spoken.now (s.watches pair.now)) s)) }
     {
         self.time_asked(pair, now, spoken);
         match spoken.says {

@@ -46,7 +46,8 @@ impl Stack {
     /// 1970, for the user timeout of five minutes while it waits for it (RFC 9293, section 3.9.1.1). False
     /// where the pair isn't held. Nothing is done of itself: its user calls `abort` or waits on.
     pub fn is_overdue(&self, pair: &Pair, now: u64) -> bool
-        ensures { (s : StackState) → Stands self.now s → result ≡ timed_out now pair.now s (held_end pair.now s.node.ends) }
+        ensures { (s : StackState) → Stands self.now s → result
+            ≡ timed_out now pair.now s (held_end pair.now s.node.ends) }
     {
         match self.ends.front(pair) {
             None => false,

@@ -18,7 +18,8 @@ use std::mem;
 
 /// A piece is given to the connection of the pair.
 fn write(stack: &mut CountedStack, at: &CPair, piece: &[u8]) -> i32
-    ensures { (s : StackState) (n : StackCounts) → Stands stack.old s n → CallsAt stack.new (pair_of at.now) (act.Give piece.now) s n result }
+    ensures { (s : StackState) (n : StackCounts) → Stands stack.old s n
+        → CallsAt stack.new (pair_of at.now) (act.Give piece.now) s n result }
 {
     match pair_of(at) {
         None => FAMILY,
@@ -28,7 +29,8 @@ fn write(stack: &mut CountedStack, at: &CPair, piece: &[u8]) -> i32
 
 /// The connection of the pair takes no more bytes to send.
 fn close(stack: &mut CountedStack, at: &CPair) -> i32
-    ensures { (s : StackState) (n : StackCounts) → Stands stack.old s n → CallsAt stack.new (pair_of at.now) act.Close s n result }
+    ensures { (s : StackState) (n : StackCounts) → Stands stack.old s n
+        → CallsAt stack.new (pair_of at.now) act.Close s n result }
 {
     match pair_of(at) {
         None => FAMILY,
@@ -38,7 +40,8 @@ fn close(stack: &mut CountedStack, at: &CPair) -> i32
 
 /// The connection of the pair is closed at once.
 fn abort(stack: &mut CountedStack, at: &CPair) -> i32
-    ensures { (s : StackState) (n : StackCounts) → Stands stack.old s n → CallsAt stack.new (pair_of at.now) act.Abort s n result }
+    ensures { (s : StackState) (n : StackCounts) → Stands stack.old s n
+        → CallsAt stack.new (pair_of at.now) act.Abort s n result }
 {
     match pair_of(at) {
         None => FAMILY,
@@ -48,7 +51,8 @@ fn abort(stack: &mut CountedStack, at: &CPair) -> i32
 
 /// The connection of the pair is dropped.
 fn remove(stack: &mut CountedStack, at: &CPair) -> i32
-    ensures { (s : StackState) (n : StackCounts) → Stands stack.old s n → CallsAt stack.new (pair_of at.now) act.Remove s n result }
+    ensures { (s : StackState) (n : StackCounts) → Stands stack.old s n
+        → CallsAt stack.new (pair_of at.now) act.Remove s n result }
 {
     match pair_of(at) {
         None => FAMILY,
@@ -59,7 +63,8 @@ fn remove(stack: &mut CountedStack, at: &CPair) -> i32
 /// A piece is given to the connection of the pair, all of it or nothing.
 #[unsafe(no_mangle)]
 pub extern "C" fn aotcp_write(alloc: Global, handle: &mut Handle, pair: &CPair, piece: &[u8]) -> i32
-    ensures { OnStack (stack_in handle.old) (stack_in handle.new) result (λ p q. (s : StackState) (n : StackCounts) → Stands p s n
+    ensures { OnStack (stack_in handle.old) (stack_in handle.new) result
+        (λ p q. (s : StackState) (n : StackCounts) → Stands p s n
         → CallsAt q (pair_of pair.now) (act.Give piece.now) s n result) }
 {
     match mem::replace(handle, Handle::none()).into_box(alloc) {
@@ -75,7 +80,8 @@ pub extern "C" fn aotcp_write(alloc: Global, handle: &mut Handle, pair: &CPair, 
 /// The connection of the pair takes no more bytes to send.
 #[unsafe(no_mangle)]
 pub extern "C" fn aotcp_close(alloc: Global, handle: &mut Handle, pair: &CPair) -> i32
-    ensures { OnStack (stack_in handle.old) (stack_in handle.new) result (λ p q. (s : StackState) (n : StackCounts) → Stands p s n
+    ensures { OnStack (stack_in handle.old) (stack_in handle.new) result
+        (λ p q. (s : StackState) (n : StackCounts) → Stands p s n
         → CallsAt q (pair_of pair.now) act.Close s n result) }
 {
     match mem::replace(handle, Handle::none()).into_box(alloc) {
@@ -91,7 +97,8 @@ pub extern "C" fn aotcp_close(alloc: Global, handle: &mut Handle, pair: &CPair) 
 /// The connection of the pair is closed at once.
 #[unsafe(no_mangle)]
 pub extern "C" fn aotcp_abort(alloc: Global, handle: &mut Handle, pair: &CPair) -> i32
-    ensures { OnStack (stack_in handle.old) (stack_in handle.new) result (λ p q. (s : StackState) (n : StackCounts) → Stands p s n
+    ensures { OnStack (stack_in handle.old) (stack_in handle.new) result
+        (λ p q. (s : StackState) (n : StackCounts) → Stands p s n
         → CallsAt q (pair_of pair.now) act.Abort s n result) }
 {
     match mem::replace(handle, Handle::none()).into_box(alloc) {
@@ -107,7 +114,8 @@ pub extern "C" fn aotcp_abort(alloc: Global, handle: &mut Handle, pair: &CPair) 
 /// The connection of the pair is dropped, with all that is kept of it.
 #[unsafe(no_mangle)]
 pub extern "C" fn aotcp_remove(alloc: Global, handle: &mut Handle, pair: &CPair) -> i32
-    ensures { OnStack (stack_in handle.old) (stack_in handle.new) result (λ p q. (s : StackState) (n : StackCounts) → Stands p s n
+    ensures { OnStack (stack_in handle.old) (stack_in handle.new) result
+        (λ p q. (s : StackState) (n : StackCounts) → Stands p s n
         → CallsAt q (pair_of pair.now) act.Remove s n result) }
 {
     match mem::replace(handle, Handle::none()).into_box(alloc) {

@@ -65,7 +65,8 @@ fn told_counters(counters: Counters, seen: KeyIdsSeen) -> CCounters
 
 /// What was counted of the connection of the pair.
 fn counters(stack: &CountedStack, at: &CPair, told: &mut CCounters) -> i32
-    ensures told { (s : StackState) (n : StackCounts) → Stands stack.now s n → IsTally (pair_of at.now) s n told.new result }
+    ensures told { (s : StackState) (n : StackCounts) → Stands stack.now s n
+        → IsTally (pair_of at.now) s n told.new result }
     ensures kept { result ≢ ok → told.new ≡ told.old }
 {
     match pair_of(at) {
@@ -103,7 +104,8 @@ pub extern "C" fn aotcp_counters(
     told: &mut CCounters,
 ) -> i32
     ensures unchanged { stack_in handle.new ≡ stack_in handle.old }
-    ensures told { OnStack (stack_in handle.old) (stack_in handle.new) result (λ p q. (s : StackState) (n : StackCounts) → Stands p s n
+    ensures told { OnStack (stack_in handle.old) (stack_in handle.new) result
+        (λ p q. (s : StackState) (n : StackCounts) → Stands p s n
         → IsTally (pair_of pair.now) s n told.new result) }
     ensures kept { result ≢ ok → told.new ≡ told.old }
 {
@@ -125,7 +127,8 @@ pub extern "C" fn aotcp_node_counters(
     told: &mut CCounters,
 ) -> i32
     ensures unchanged { stack_in handle.new ≡ stack_in handle.old }
-    ensures told { OnStack (stack_in handle.old) (stack_in handle.new) result (λ p q. (s : StackState) (n : StackCounts) → Stands p s n
+    ensures told { OnStack (stack_in handle.old) (stack_in handle.new) result
+        (λ p q. (s : StackState) (n : StackCounts) → Stands p s n
         → TellsNode s n told.new result) }
     ensures kept { result ≢ ok → told.new ≡ told.old }
 {

@@ -23,7 +23,8 @@ const LEAST_ROOM: usize = 1500;
 
 /// A datagram comes.
 fn input(stack: &mut CountedStack, now: u64, bytes: &[u8], told: &mut CHeard) -> i32
-    ensures hears { (s : StackState) (n : StackCounts) → Stands stack.old s n → Hears stack.new (record { now = now; bytes = bytes.now }) s n told.new result }
+    ensures hears { (s : StackState) (n : StackCounts) → Stands stack.old s n
+        → Hears stack.new (record { now = now; bytes = bytes.now }) s n told.new result }
     ensures kept { result ≢ ok → told.new ≡ told.old }
 {
     if now > LATEST {
@@ -35,7 +36,8 @@ fn input(stack: &mut CountedStack, now: u64, bytes: &[u8], told: &mut CHeard) ->
 
 /// The next datagram.
 fn output(stack: &mut CountedStack, now: u64, room: &mut [u8], length: &mut usize) -> i32
-    ensures sends { (s : StackState) (n : StackCounts) → Stands stack.old s n → Sends stack.new now room.old room.new length.new s n result }
+    ensures sends { (s : StackState) (n : StackCounts) → Stands stack.old s n
+        → Sends stack.new now room.old room.new length.new s n result }
     ensures kept { result ≢ ok → length.new ≡ length.old }
     ensures room { result ≡ no_stack → room.new ≡ room.old }
 {
@@ -63,7 +65,8 @@ pub extern "C" fn aotcp_input(
     bytes: &[u8],
     told: &mut CHeard,
 ) -> i32
-    ensures hears { OnStack (stack_in handle.old) (stack_in handle.new) result (λ p q. (s : StackState) (n : StackCounts) → Stands p s n
+    ensures hears { OnStack (stack_in handle.old) (stack_in handle.new) result
+        (λ p q. (s : StackState) (n : StackCounts) → Stands p s n
         → Hears q (record { now = now; bytes = bytes.now }) s n told.new result) }
     ensures kept { result ≢ ok → told.new ≡ told.old }
 {
@@ -86,7 +89,8 @@ pub extern "C" fn aotcp_output(
     room: &mut [u8],
     length: &mut usize,
 ) -> i32
-    ensures sends { OnStack (stack_in handle.old) (stack_in handle.new) result (λ p q. (s : StackState) (n : StackCounts) → Stands p s n
+    ensures sends { OnStack (stack_in handle.old) (stack_in handle.new) result
+        (λ p q. (s : StackState) (n : StackCounts) → Stands p s n
         → Sends q now room.old room.new length.new s n result) }
     ensures kept { result ≢ ok → length.new ≡ length.old }
     ensures room { result ≡ no_stack → room.new ≡ room.old }

@@ -5,7 +5,8 @@ ghost use Rattle.book_keys.specs.MasterKeys.{longest_master_key};
 ghost use Rattle.book_keys.specs.Rows.{has_address};
 ghost use Rattle.aotcp_c.specs.Codes.{bad_keys, ok};
 ghost use Rattle.aotcp_c.specs.KeyFiles.{Finds, row_code};
-ghost use Rattle.aotcp_c.specs.RowShapes.{IsFiled, IsFound, IsToldRow, algorithm_number, direction_number, is_any, is_for_all, told_row};
+ghost use Rattle.aotcp_c.specs.RowShapes.{IsFiled, IsFound, IsToldRow, algorithm_number, direction_number, is_any};
+ghost use Rattle.aotcp_c.specs.RowShapes.{is_for_all, told_row};
 ghost use Rattle.aotcp_c.specs.Shapes.{address_of};
 
 use crate::codes::{FAMILY, FAULT, NO_NODE, NO_ROW, OK, ROOM};
@@ -137,7 +138,8 @@ pub extern "C" fn aotcp_row(
     fault: &mut CFault,
 ) -> i32
     ensures there { result ≡ ok → is_some (address_of node.now) ≡ true }
-    ensures told { result ≡ ok → IfSome (address_of node.now) (λ a. IsFiled text.now a number told.new count.new key.new) }
+    ensures told { result ≡ ok → IfSome (address_of node.now)
+        (λ a. IsFiled text.now a number told.new count.new key.new) }
     ensures code { Finds (length key.old) (address_of node.now) number text.now fault.new result }
     ensures fault { result ≢ bad_keys → fault.new ≡ fault.old }
     ensures row { result ≢ ok → told.new ≡ told.old }

@@ -1,6 +1,7 @@
 //! The numbers by which a C program is told of answers.
 ghost use Rattle.std.specs.Prelude.{◌≡◌};
-ghost use Rattle.aotcp_c.specs.Numbers.{phase_number, column_number, datagram_number, verdict_number, arrival_number, reason_number};
+ghost use Rattle.aotcp_c.specs.Numbers.{phase_number, column_number, datagram_number, verdict_number};
+ghost use Rattle.aotcp_c.specs.Numbers.{arrival_number, reason_number};
 
 use book_endpoint::{Arrival, Phase, Verdict};
 use book_keys::Column;

@@ -18,7 +18,8 @@ use std::mem;
 
 /// A connection of the pair opens actively.
 fn open(alloc: Global, stack: &mut CountedStack, at: &CPair, isn: u32) -> i32
-    ensures { (s : StackState) (n : StackCounts) → Stands stack.old s n → Begins stack.new (pair_of at.now) (act.Open isn) s n result }
+    ensures { (s : StackState) (n : StackCounts) → Stands stack.old s n
+        → Begins stack.new (pair_of at.now) (act.Open isn) s n result }
 {
     match pair_of(at) {
         None => FAMILY,
@@ -28,7 +29,8 @@ fn open(alloc: Global, stack: &mut CountedStack, at: &CPair, isn: u32) -> i32
 
 /// A connection of the pair waits for the SYN of its peer.
 fn listen(alloc: Global, stack: &mut CountedStack, at: &CPair, isn: u32) -> i32
-    ensures { (s : StackState) (n : StackCounts) → Stands stack.old s n → Begins stack.new (pair_of at.now) (act.Listen isn) s n result }
+    ensures { (s : StackState) (n : StackCounts) → Stands stack.old s n
+        → Begins stack.new (pair_of at.now) (act.Listen isn) s n result }
 {
     match pair_of(at) {
         None => FAMILY,
@@ -39,7 +41,8 @@ fn listen(alloc: Global, stack: &mut CountedStack, at: &CPair, isn: u32) -> i32
 /// A connection of the pair opens actively, with `isn` as its own initial sequence number.
 #[unsafe(no_mangle)]
 pub extern "C" fn aotcp_open(alloc: Global, handle: &mut Handle, pair: &CPair, isn: u32) -> i32
-    ensures { OnStack (stack_in handle.old) (stack_in handle.new) result (λ p q. (s : StackState) (n : StackCounts) → Stands p s n
+    ensures { OnStack (stack_in handle.old) (stack_in handle.new) result
+        (λ p q. (s : StackState) (n : StackCounts) → Stands p s n
         → Begins q (pair_of pair.now) (act.Open isn) s n result) }
 {
     match mem::replace(handle, Handle::none()).into_box(alloc) {
@@ -55,7 +58,8 @@ pub extern "C" fn aotcp_open(alloc: Global, handle: &mut Handle, pair: &CPair, i
 /// A connection of the pair waits for the SYN of its peer. All else is as for `aotcp_open`.
 #[unsafe(no_mangle)]
 pub extern "C" fn aotcp_listen(alloc: Global, handle: &mut Handle, pair: &CPair, isn: u32) -> i32
-    ensures { OnStack (stack_in handle.old) (stack_in handle.new) result (λ p q. (s : StackState) (n : StackCounts) → Stands p s n
+    ensures { OnStack (stack_in handle.old) (stack_in handle.new) result
+        (λ p q. (s : StackState) (n : StackCounts) → Stands p s n
         → Begins q (pair_of pair.now) (act.Listen isn) s n result) }
 {
     match mem::replace(handle, Handle::none()).into_box(alloc) {

@@ -18,7 +18,8 @@ use std::mem;
 
 /// The first bytes of the pair are moved to the front of `room`.
 fn read(stack: &mut CountedStack, at: &CPair, room: &mut [u8], told: &mut CTaken) -> i32
-    ensures reads { (s : StackState) (n : StackCounts) → Stands stack.old s n → Reads stack.new (pair_of at.now) room.old room.new told.new s n result }
+    ensures reads { (s : StackState) (n : StackCounts) → Stands stack.old s n
+        → Reads stack.new (pair_of at.now) room.old room.new told.new s n result }
     ensures kept { result ≢ ok → told.new ≡ told.old }
     ensures room { result ≢ ok → room.new ≡ room.old }
 {
@@ -47,7 +48,8 @@ pub extern "C" fn aotcp_read(
     room: &mut [u8],
     told: &mut CTaken,
 ) -> i32
-    ensures reads { OnStack (stack_in handle.old) (stack_in handle.new) result (λ p q. (s : StackState) (n : StackCounts) → Stands p s n
+    ensures reads { OnStack (stack_in handle.old) (stack_in handle.new) result
+        (λ p q. (s : StackState) (n : StackCounts) → Stands p s n
         → Reads q (pair_of pair.now) room.old room.new told.new s n result) }
     ensures kept { result ≢ ok → told.new ≡ told.old }
     ensures room { result ≢ ok → room.new ≡ room.old }

@@ -108,7 +108,8 @@ fn number_in(added: Result<u8, AddRefusal>, before: u8) -> u8
 
 /// A row is added that stands so.
 fn add(alloc: Global, stack: &mut CountedStack, row: &CRow, key: &[u8], number: &mut u8) -> i32
-    ensures adds { (s : StackState) (n : StackCounts) → Stands stack.old s n → Adds stack.new row.now key.now s n number.new result }
+    ensures adds { (s : StackState) (n : StackCounts) → Stands stack.old s n
+        → Adds stack.new row.now key.now s n number.new result }
     ensures kept { result ≢ ok → result ≢ overlap → number.new ≡ number.old }
 {
     let stands_so = is_row(row, key);
@@ -127,7 +128,8 @@ fn add(alloc: Global, stack: &mut CountedStack, row: &CRow, key: &[u8], number: 
 
 /// A row is taken out of use.
 fn withdraw(stack: &mut CountedStack, number: u8) -> i32
-    ensures { (s : StackState) (n : StackCounts) → Stands stack.old s n → Answers stack.new (Withdraw number) s n result }
+    ensures { (s : StackState) (n : StackCounts) → Stands stack.old s n
+        → Answers stack.new (Withdraw number) s n result }
 {
     withdrawn_code(stack.withdraw(number))
 }
@@ -141,7 +143,8 @@ pub extern "C" fn aotcp_add(
     key: &[u8],
     number: &mut u8,
 ) -> i32
-    ensures adds { OnStack (stack_in handle.old) (stack_in handle.new) result (λ p q. (s : StackState) (n : StackCounts) → Stands p s n
+    ensures adds { OnStack (stack_in handle.old) (stack_in handle.new) result
+        (λ p q. (s : StackState) (n : StackCounts) → Stands p s n
         → Adds q row.now key.now s n number.new result) }
     ensures kept { result ≢ ok → result ≢ overlap → number.new ≡ number.old }
 {
@@ -158,7 +161,8 @@ pub extern "C" fn aotcp_add(
 /// Takes a row out of use: it keeps its number, and neither sends nor accepts from now on.
 #[unsafe(no_mangle)]
 pub extern "C" fn aotcp_withdraw(alloc: Global, handle: &mut Handle, number: u8) -> i32
-    ensures { OnStack (stack_in handle.old) (stack_in handle.new) result (λ p q. (s : StackState) (n : StackCounts) → Stands p s n
+    ensures { OnStack (stack_in handle.old) (stack_in handle.new) result
+        (λ p q. (s : StackState) (n : StackCounts) → Stands p s n
         → Answers q (Withdraw number) s n result) }
 {
     match mem::replace(handle, Handle::none()).into_box(alloc) {

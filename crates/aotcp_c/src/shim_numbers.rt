@@ -1,7 +1,8 @@
 //! What a shim answers, as numbers.
 ghost use Rattle.std.specs.Prelude.{◌≡◌};
 ghost use Rattle.book_segments.specs.Segments.{reading};
-ghost use Rattle.aotcp_c.specs.Shims.{reached_pair, left_pair, left_told, reached_told, saved_told, taken_cause, taken_reason, unsent_cause, unsent_reason};
+ghost use Rattle.aotcp_c.specs.Shims.{reached_pair, left_pair, left_told, reached_told, saved_told, taken_cause};
+ghost use Rattle.aotcp_c.specs.Shims.{taken_reason, unsent_cause, unsent_reason};
 
 use crate::numbers::{datagram_number, verdict_number};
 use crate::pairs::{no_pair, told_pair};

@@ -2,7 +2,8 @@
 ghost use Rattle.std.specs.Prelude.{◌≡◌, ◌≢◌, true};
 ghost use Rattle.aotcp_c.specs.Codes.{ok};
 ghost use Rattle.aotcp_c.specs.Shapes.{pair_of};
-ghost use Rattle.aotcp_c.specs.Shims.{OnShim, Restores, RestoresAt, Saves, are_low, key_of, restored_code, saved_of_c, shim_in};
+ghost use Rattle.aotcp_c.specs.Shims.{OnShim, Restores, RestoresAt, Saves, are_low, key_of, restored_code};
+ghost use Rattle.aotcp_c.specs.Shims.{saved_of_c, shim_in};
 
 use crate::codes::{FAMILY, NO_CONNECTION, NO_STACK, NOTHING, OK, ROW};
 use crate::pairs::pair_of;

@@ -135,7 +135,8 @@ pub extern "C" fn aotcp_new(
     most: u16,
     fault: &mut CFault,
 ) -> i32
-    ensures opens { result ≡ ok → IfSome (stack_in handle.new) (λ k. IfSome (address_of node.now) (λ a. Opens text.now a most k)) }
+    ensures opens { result ≡ ok → IfSome (stack_in handle.new)
+        (λ k. IfSome (address_of node.now) (λ a. Opens text.now a most k)) }
     ensures held { result ≡ ok → is_some (stack_in handle.new) ≡ true }
     ensures there { result ≡ ok → is_some (address_of node.now) ≡ true }
     ensures before { result ≡ ok → stack_in handle.old ≡ None }

@@ -26,7 +26,8 @@ const ROUTE_REFRESH: u8 = 5;
 #[tactic(auto, unfolding(book_bgp::specs::Messages::header_fault))]
 pub(crate) fn read_header(header: &[u8]) -> Result<usize, BgpFault>
     requires { length header.now ≡ header_length }
-    ensures { MatchResult result (λ len. (header_fault header.now ≡ None) × (len ≡ length_in header.now)) (λ fault. header_fault header.now ≡ Some fault) }
+    ensures { MatchResult result (λ len. (header_fault header.now ≡ None) × (len ≡ length_in header.now))
+        (λ fault. header_fault header.now ≡ Some fault) }
 {
     if &header[..16] != MARKER.as_slice() {
         return Err(BgpFault::Marker);

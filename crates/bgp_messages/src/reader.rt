@@ -83,7 +83,8 @@ impl BgpReader {
         ensures exact { (result, self.new) ≡ fed self.old piece.now }
         ensures within { result.used ≤ length piece.now }
         ensures used { IsUsed result.found result.used piece.now self.new }
-        ensures reads { (bytes : List ℕ) → StandsFor self.old bytes → Reads bytes (take result.used piece.now) self.new }
+        ensures reads { (bytes : List ℕ) → StandsFor self.old bytes
+            → Reads bytes (take result.used piece.now) self.new }
     {
         match self.state {
             State::Unfinished => self.feed_on(piece),
@@ -106,7 +107,8 @@ impl BgpReader {
         ensures exact { (result, self.new) ≡ fed self.old piece.now }
         ensures within { result.used ≤ length piece.now }
         ensures used { IsUsed result.found result.used piece.now self.new }
-        ensures reads { (bytes : List ℕ) → StandsFor self.old bytes → Reads bytes (take result.used piece.now) self.new }
+        ensures reads { (bytes : List ℕ) → StandsFor self.old bytes
+            → Reads bytes (take result.used piece.now) self.new }
     {
         let fed = gather(&mut self.gathered, piece);
         match fed.found {

@@ -8,14 +8,17 @@ ghost use Rattle.book_bgp.specs.Messages.{Message, IsMessage, spell_messages, me
 /// that is spelled so begins them: they are the greatest such list (RFC 4271, section 4).
 pub fn messages_are_the_greatest()
     ensures are { (bytes : List ℕ) → All (λ b. b < 256) bytes → All IsMessage (messages bytes) }
-    ensures spelled { (bytes : List ℕ) → All (λ b. b < 256) bytes → bytes ≡ spell_messages (messages bytes) ++ behind bytes }
-    ensures greatest { (list : List Message) (rest : List ℕ) → All IsMessage list → messages (spell_messages list ++ rest) ≡ list ++ messages rest }
+    ensures spelled { (bytes : List ℕ) → All (λ b. b < 256) bytes
+        → bytes ≡ spell_messages (messages bytes) ++ behind bytes }
+    ensures greatest { (list : List Message) (rest : List ℕ) → All IsMessage list
+        → messages (spell_messages list ++ rest) ≡ list ++ messages rest }
 {}
 
 /// The messages of a part of a stream that begins at its front begin the stream's messages; and where
 /// a fault ends them, it ends the stream's too.
 pub fn messages_of_more_begin_alike()
-    ensures prefix { (bytes more : List ℕ) → (later : List Message) × (messages (bytes ++ more) ≡ messages bytes ++ later) }
+    ensures prefix { (bytes more : List ℕ) → (later : List Message)
+        × (messages (bytes ++ more) ≡ messages bytes ++ later) }
     ensures fault { (bytes more : List ℕ) (fault : BgpFault) → fault_in bytes ≡ Some fault
         → (messages (bytes ++ more) ≡ messages bytes) × (fault_in (bytes ++ more) ≡ Some fault) }
 {}

@@ -12,7 +12,8 @@ ghost use Rattle.book_cmd_check.specs.Handshakes.{EndsHandshake, and_given, give
 /// too where connections were given before the first.
 pub fn connections_are_a_map()
     ensures map { (tables : List Table) (stored : List Stored) → IsMap (connections_after tables [] stored) }
-    ensures given { (tables : List Table) (given : List GivenIsns) (stored : List Stored) → IsMap (connections_after tables (given_after [] given) stored) }
+    ensures given { (tables : List Table) (given : List GivenIsns) (stored : List Stored)
+        → IsMap (connections_after tables (given_after [] given) stored) }
     ensures judged { (tables : List Table) (before after : List Stored) → sayings_from tables [] (before ++ after)
         ≡ sayings_from tables [] before ++ sayings_from tables (connections_after tables [] before) after }
 {}

@@ -10,5 +10,6 @@ ghost use Rattle.book_link.specs.Worlds.{Setup};
 /// was made, with its maker and all that is drawn of it, and each datagram that came, with the end that
 /// it came to and what the end answered. None is left out, and none is drawn beside.
 pub fn arrows_are_those_of_the_run()
-    ensures { (setup : Setup) (events : List Event) → arrows (rungs setup events) ≡ happened (run setup events).history }
+    ensures { (setup : Setup) (events : List Event) → arrows (rungs setup events)
+        ≡ happened (run setup events).history }
 {}

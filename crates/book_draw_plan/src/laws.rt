@@ -59,7 +59,8 @@ pub fn marks_are_of_the_plan()
     ensures wrong { (tables : List Table) (plan : Plan) (pair : Pair) (a b : Table) (s : Part)
         → node_with tables pair.local.address ≡ Some a → node_with tables pair.remote.address ≡ Some b
         → plan.from ≤ s.first → s.first ≤ s.last → s.last ≤ plan.to
-        → (slice_mark a b pair (plan_findings tables plan pair) s ≡ 33 ∷ []) ↔ PassesWithin (is_wrong_at a.rows b.rows pair plan) s }
+        → (slice_mark a b pair (plan_findings tables plan pair) s ≡ 33 ∷ [])
+        ↔ PassesWithin (is_wrong_at a.rows b.rows pair plan) s }
     ensures aligned { (tables : List Table) (plan : Plan) (pair : Pair) (a b : Table) (s : Part)
         → lint_of tables pair plan ≡ answer.Aligned → slice_mark a b pair (plan_findings tables plan pair) s ≡ 32 ∷ [] }
 {}

@@ -12,7 +12,8 @@ ghost use Rattle.book_draw_session.specs.declared.rung.SessionEnds.{SessionEnds 
 ghost use Rattle.book_draw_session.specs.declared.rung.SessionRung.{SessionRung as Segment};
 ghost use Rattle.book_draw_session.specs.declared.span.DrawnTime.{DrawnTime as Time};
 ghost use Rattle.book_draw_session.specs.Folds.{lines_count, lines_within};
-ghost use Rattle.book_draw_session.specs.Rungs.{counted_in, ends_of_use, rungs_in, rungs_of_session, seen_of, session_at, sessions_drawn};
+ghost use Rattle.book_draw_session.specs.Rungs.{counted_in, ends_of_use, rungs_in, rungs_of_session, seen_of};
+ghost use Rattle.book_draw_session.specs.Rungs.{session_at, sessions_drawn};
 
 /// The rungs of a capture are its segments, in their order, each with its ids and with what comes of it.
 pub fn rungs_are_those_of_the_segments()
@@ -27,13 +28,16 @@ pub fn rungs_are_those_of_the_table()
     ensures sessions { (j : Judging) (given : List GivenIsns) (packets : List CapturePacket)
         → length (sessions_drawn (rungs_in j given packets)) ≡ (sessions_of j given packets).sessions }
     ensures ends { (j : Judging) (given : List GivenIsns) (packets : List CapturePacket) (number : ℕ)
-        → session_at number (sessions_drawn (rungs_in j given packets)) ≡ option_map ends_of_use (find (is_of_session number) (sessions_of j given packets).uses) }
+        → session_at number (sessions_drawn (rungs_in j given packets))
+        ≡ option_map ends_of_use (find (is_of_session number) (sessions_of j given packets).uses) }
     ensures counted { (j : Judging) (given : List GivenIsns) (packets : List CapturePacket) (number : ℕ)
-        → length (rungs_of_session number (rungs_in j given packets)) ≡ counted_in number (sessions_of j given packets).uses }
+        → length (rungs_of_session number (rungs_in j given packets))
+        ≡ counted_in number (sessions_of j given packets).uses }
 {}
 
 /// The lines of segments stand for all of them, whatever time is drawn: each line for one, or for as many as it
 /// says.
 pub fn lines_stand_for_all()
-    ensures { (t : Time) (e : Ends) (rs : List Segment) → length rs ≤ 18446744073709551615 → lines_count (lines_within t e rs) ≡ length rs }
+    ensures { (t : Time) (e : Ends) (rs : List Segment) → length rs ≤ 18446744073709551615
+        → lines_count (lines_within t e rs) ≡ length rs }
 {}

@@ -5,5 +5,6 @@ ghost use Rattle.book_echo.specs.Echoes.{echoes_from, told_text};
 
 /// Without what is echoed the text of a link file's run is its report.
 pub fn the_report_is_told()
-    ensures { (n : ℕ) (lines : List (List ℕ)) (events : List Event) (report : List ℕ) → told_text (echoes_from n lines events report) ≡ report }
+    ensures { (n : ℕ) (lines : List (List ℕ)) (events : List Event) (report : List ℕ)
+        → told_text (echoes_from n lines events report) ≡ report }
 {}

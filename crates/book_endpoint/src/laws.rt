@@ -1,5 +1,6 @@
 //! What the definitions say of single steps, as clauses of functions that do nothing.
-ghost use Rattle.std.specs.Prelude.{◌≡◌, ◌↔◌, ◌⊎◌, ℕ, ◌+◌, ◌-◌, ◌<◌, Bool, true, false, List, length, Option, Some, Ok, Err};
+ghost use Rattle.std.specs.Prelude.{◌≡◌, ◌↔◌, ◌⊎◌, ℕ, ◌+◌, ◌-◌, ◌<◌, Bool, true, false, List, length, Option, Some};
+ghost use Rattle.std.specs.Prelude.{Ok, Err};
 ghost use Rattle.book_base.specs.declared.address.Pair.{Pair};
 ghost use Rattle.book_segments.specs.Received.{runs};
 ghost use Rattle.book_segments.specs.Segments.{Segment, Read, has, RST};
@@ -23,7 +24,8 @@ pub fn passes_exactly()
 /// A segment that the check refuses changes nothing: its RNextKeyID isn't heard, and no byte,
 /// acknowledgement or window of it is taken (RFC 5925, section 7.5).
 pub fn refused_changes_nothing()
-    ensures { (rows : List Row) (pair : Pair) (now : ℕ) (s : EndState) (d : Segment) (why : Verdict) → judged_by rows pair now s d ≡ Err why
+    ensures { (rows : List Row) (pair : Pair) (now : ℕ) (s : EndState) (d : Segment) (why : Verdict)
+        → judged_by rows pair now s d ≡ Err why
         → (arrive rows pair now s (Read d)).state ≡ s }
 {}
 
@@ -45,7 +47,8 @@ pub fn fin_is_past_all_kept_bytes()
 pub fn reset_is_at_the_expected_number()
     ensures { (rows : List Row) (pair : Pair) (now : ℕ) (s : EndState) (d : Segment) → has RST d ≡ true
         → (arrive rows pair now s (Read d)).state.phase ≡ Closed
-        → ((p : Finding) × ((arrive rows pair now s (Read d)).passed ≡ Some p) × (p.number ≡ s.expected)) ⊎ (s.phase ≡ Closed) }
+        → ((p : Finding) × ((arrive rows pair now s (Read d)).passed ≡ Some p) × (p.number ≡ s.expected))
+        ⊎ (s.phase ≡ Closed) }
 {}
 
 /// The RNextKeyID of a RST isn't heard: the current key stays (RFC 5925, section 7.5; of a RST: own).
@@ -58,5 +61,6 @@ pub fn reset_hears_no_key()
 /// 3.10.5).
 pub fn abort_closes()
     ensures closed { (s : EndState) → (abort s).phase ≡ Closed }
-    ensures owes { (s : EndState) → s.rst_owed ≡ false → (abort s).rst_owed ≡ true → (hears s.phase ≡ true) ⊎ (s.phase ≡ SynReceived) ⊎ (s.phase ≡ CloseWait) }
+    ensures owes { (s : EndState) → s.rst_owed ≡ false → (abort s).rst_owed ≡ true
+        → (hears s.phase ≡ true) ⊎ (s.phase ≡ SynReceived) ⊎ (s.phase ≡ CloseWait) }
 {}

@@ -1,5 +1,6 @@
 //! Theorems about the definitions, as clauses of functions that do nothing.
-ghost use Rattle.std.specs.Prelude.{◌≡◌, ◌↔◌, ℕ, ◌<◌, Bool, true, false, List, [], length, slice_index_or, Some, None, Ok, Err};
+ghost use Rattle.std.specs.Prelude.{◌≡◌, ◌↔◌, ℕ, ◌<◌, Bool, true, false, List, [], length, slice_index_or, Some};
+ghost use Rattle.std.specs.Prelude.{None, Ok, Err};
 ghost use Rattle.std.specs.List.{All};
 ghost use Rattle.book_base.specs.declared.address.Address.{Address};
 ghost use Rattle.book_base.specs.declared.address.Pair.{Pair};
@@ -8,7 +9,8 @@ ghost use Rattle.book_keys.specs.Rows.{Row, Table, sendable, acceptable};
 ghost use Rattle.book_keys.specs.Shared.{shared_tables};
 ghost use Rattle.book_keys.specs.Nodes.{document_of, tables_of};
 ghost use Rattle.book_keys.specs.declared.fault.TableFault.TheVariants.{Syntax};
-ghost use Rattle.book_keys.specs.Overlaps.{Overlap, overlaps, AreApart, IsValid, TwoRows, first_overlap, IsFirstOverlap};
+ghost use Rattle.book_keys.specs.Overlaps.{Overlap, overlaps, AreApart, IsValid, TwoRows, first_overlap};
+ghost use Rattle.book_keys.specs.Overlaps.IsFirstOverlap;
 ghost use Rattle.book_keys.specs.Choices.{Numbered, latest, lowest, IsLatest, IsLowest};
 
 /// The test of two rows by their columns is true exactly where they overlap.
@@ -58,8 +60,10 @@ pub fn lowest_is_first()
 /// Each table of a key file without a fault is valid, and so are the tables of a shared key and a
 /// table without rows.
 pub fn tables_are_valid()
-    ensures file { (text : List ℕ) (tables : List Table) → tables_of text ≡ Ok tables → All (λ t. IsValid t.rows) tables }
-    ensures shared { (a b : Address) (algorithm : Algorithm) (master : List ℕ) → All (λ t. IsValid t.rows) (shared_tables a b algorithm master) }
+    ensures file { (text : List ℕ) (tables : List Table) → tables_of text ≡ Ok tables
+        → All (λ t. IsValid t.rows) tables }
+    ensures shared { (a b : Address) (algorithm : Algorithm) (master : List ℕ)
+        → All (λ t. IsValid t.rows) (shared_tables a b algorithm master) }
     ensures empty { IsValid [] }
 {}
 

@@ -8,7 +8,8 @@ ghost use Rattle.book_macs.specs.Padded.{block_count, blocks, chain, padded, wit
 /// subkey; the padded message is whole blocks (RFC 4493, section 2.4).
 pub fn cmac_is_the_chain()
     ensures whole { (m : List ℕ) → length (padded m) ≡ 16 * block_count m }
-    ensures chain { (key m : List ℕ) → cmac key m ≡ fold (chain key) (replicate 16 0) (blocks (block_count m) (with_subkey key m)) }
+    ensures chain { (key m : List ℕ) → cmac key m ≡ fold (chain key) (replicate 16 0)
+        (blocks (block_count m) (with_subkey key m)) }
 {}
 
 /// A byte but 0 times its inverse is 1 in the field of AES, and the inverse of 0 is 0 (FIPS 197,

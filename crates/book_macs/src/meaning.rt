@@ -10,5 +10,7 @@ ghost use Rattle.book_macs.specs.Meaning.{SameFamily, NumberedSegment, SameMeani
 /// options or the TCP-AO option alone (RFC 5925, section 5.1). Each has one TCP-AO option, with a
 /// MAC of one length, and a number below 2^64 that its sequence field means.
 pub fn equal_inputs_equal_meaning()
-    ensures { (n m : ℕ) (d e : Segment) (p q : Ao) (f g : Bool) → NumberedSegment n d p → NumberedSegment m e q → SameFamily d.ip e.ip → length p.mac ≡ length q.mac → mac_input n d p f ≡ mac_input m e q g → SameMeaning n m d e p q }
+    ensures { (n m : ℕ) (d e : Segment) (p q : Ao) (f g : Bool) → NumberedSegment n d p → NumberedSegment m e q
+        → SameFamily d.ip e.ip → length p.mac ≡ length q.mac → mac_input n d p f ≡ mac_input m e q g
+        → SameMeaning n m d e p q }
 {}

@@ -13,9 +13,13 @@ pub fn packets_are_the_grammar()
         → (head : Head) × (kept : List Kept) × IsFile head kept [] file × (list ≡ with_datagrams head.link 1 kept) }
     ensures only { (head : Head) (kept : List Kept) (file : List ℕ) → All (λ b. b < 256) file → IsFile head kept [] file
         → packets_of file ≡ record { list = with_datagrams head.link 1 kept; fault = None } }
-    ensures broken { (file : List ℕ) (list : List Packet) (n : ℕ) → packets_of file ≡ record { list = list; fault = Some (BadRecord n) }
+    ensures broken { (file : List ℕ) (list : List Packet) (n : ℕ)
+        → packets_of file ≡ record { list = list; fault = Some (BadRecord n) }
         → (head : Head) × (kept : List Kept) × (tail : List ℕ) × IsFile head kept tail file × IsBroken head.order tail
         × (list ≡ with_datagrams head.link 1 kept) × (n ≡ 1 + length kept) }
-    ensures only_broken { (head : Head) (kept : List Kept) (tail file : List ℕ) → All (λ b. b < 256) file → IsFile head kept tail file
-        → IsBroken head.order tail → packets_of file ≡ record { list = with_datagrams head.link 1 kept; fault = Some (BadRecord (1 + length kept)) } }
+    ensures only_broken { (head : Head) (kept : List Kept) (tail file : List ℕ) → All (λ b. b < 256) file
+        → IsFile head kept tail file
+        → IsBroken head.order tail
+        → packets_of file
+        ≡ record { list = with_datagrams head.link 1 kept; fault = Some (BadRecord (1 + length kept)) } }
 {}

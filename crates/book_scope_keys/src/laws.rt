@@ -18,12 +18,14 @@ pub fn findings_are_of_the_walk()
 /// headers in front of it, and begins with the finding's field or is their header. The text is plain: but for
 /// comments no line of it has three quotes side by side or an opening brace.
 pub fn told_places_are_theirs()
-    ensures { (text : List ℕ) (finding : KeyFinding) (place : TextPlace) → finding_place text finding ≡ Some place → IsPlaceOf text finding place }
+    ensures { (text : List ℕ) (finding : KeyFinding) (place : TextPlace) → finding_place text finding ≡ Some place
+        → IsPlaceOf text finding place }
 {}
 
 /// What is found in a row tells no master key: it is the same of two rows that differ in Key alone, where the
 /// two values look alike: both missing, both of one type that is no text, or two texts of one length, both
 /// keys or none for the same reason.
 pub fn master_keys_are_not_told()
-    ensures { (place : KeyPlace) (one other : Members) → AlikeButKey one other → row_findings place (table one) ≡ row_findings place (table other) }
+    ensures { (place : KeyPlace) (one other : Members) → AlikeButKey one other
+        → row_findings place (table one) ≡ row_findings place (table other) }
 {}

@@ -11,10 +11,12 @@ ghost use Rattle.book_segments.specs.Spelling.{AreBytes, Fits, Spells, Good, fin
 /// are their spellings and a tail, and a fault exactly where the first faulty option stands (RFC
 /// 9293, section 3.2).
 pub fn options_are_the_grammar()
-    ensures read { (bytes : List ℕ) → AreListed (options_of bytes) → (tail : List ℕ) × Area (listed (options_of bytes)) tail bytes }
+    ensures read { (bytes : List ℕ) → AreListed (options_of bytes)
+        → (tail : List ℕ) × Area (listed (options_of bytes)) tail bytes }
     ensures only { (list : List Opt) (tail bytes : List ℕ) → Area list tail bytes → options_of bytes ≡ Listed list }
     ensures fault { (bytes : List ℕ) (fault : OptionFault) → options_of bytes ≡ Faulty fault → FaultAt bytes fault }
-    ensures only_fault { (bytes : List ℕ) (fault : OptionFault) → FaultAt bytes fault → options_of bytes ≡ Faulty fault }
+    ensures only_fault { (bytes : List ℕ) (fault : OptionFault) → FaultAt bytes fault
+        → options_of bytes ≡ Faulty fault }
 {}
 
 /// Spellings are a prefix code: a value has at most one spelling, no two values share one, and no
@@ -28,9 +30,11 @@ pub fn spellings_are_unique()
 /// Bytes are read as a datagram exactly where a prefix of them spells it. A datagram whose TCP
 /// checksum was set is good, and is read again, whatever follows.
 pub fn reading_is_the_spelling()
-    ensures read { (bytes : List ℕ) (d : Segment) → AreBytes bytes → reading bytes ≡ Read d → (rest : List ℕ) × Fits d × (bytes ≡ spell d ++ rest) }
+    ensures read { (bytes : List ℕ) (d : Segment) → AreBytes bytes → reading bytes ≡ Read d
+        → (rest : List ℕ) × Fits d × (bytes ≡ spell d ++ rest) }
     ensures only { (bytes rest : List ℕ) (d : Segment) → Fits d → bytes ≡ spell d ++ rest → reading bytes ≡ Read d }
-    ensures finished { (d : Segment) (rest : List ℕ) → Fits d → Good (finished d) × Fits (finished d) × (reading (spell (finished d) ++ rest) ≡ Read (finished d)) }
+    ensures finished { (d : Segment) (rest : List ℕ) → Fits d
+        → Good (finished d) × Fits (finished d) × (reading (spell (finished d) ++ rest) ≡ Read (finished d)) }
 {}
 
 /// A folded sum fits 16 bits, and has the plain sum's remainder modulo ffff: a checksum is right
@@ -41,7 +45,9 @@ pub fn folded_sums_are_remainders()
     ensures fits { (sum : ℕ) → folded sum < 0x10000 }
     ensures same { (sum : ℕ) → folded sum % 0xffff ≡ sum % 0xffff }
     ensures right { (bytes : List ℕ) → (sums bytes ≡ true) ↔ ((0 < words_sum bytes) × (words_sum bytes % 0xffff ≡ 0)) }
-    ensures complement { (bytes : List ℕ) → 0 < words_sum bytes → 0 < words_sum bytes % 0xffff → complement_of bytes ≡ 0xffff - words_sum bytes % 0xffff }
-    ensures divisible { (bytes : List ℕ) → 0 < words_sum bytes → words_sum bytes % 0xffff ≡ 0 → complement_of bytes ≡ 0 }
+    ensures complement { (bytes : List ℕ) → 0 < words_sum bytes → 0 < words_sum bytes % 0xffff
+        → complement_of bytes ≡ 0xffff - words_sum bytes % 0xffff }
+    ensures divisible { (bytes : List ℕ) → 0 < words_sum bytes → words_sum bytes % 0xffff ≡ 0
+        → complement_of bytes ≡ 0 }
     ensures zero { (bytes : List ℕ) → words_sum bytes ≡ 0 → complement_of bytes ≡ 0xffff }
 {}

@@ -74,13 +74,13 @@ pub struct Signs {
     pub finishes: bool,
 }
 
-/// The segments from one socket to another with one KeyID and one RNextKeyID, or with no single ones, and
-/// protected alike, of which the check says the same, and, where they are verified, of one connection and under one row of
-/// the receiver's table: the number of their session, whether one is a SYN with ACK, how many there are, the
-/// earliest and the latest time at which one was seen, in seconds since 1970, and the number of the last
-/// packet. `reached` is the greatest number after the last byte of one that passed. `moved` is the number of
-/// the last packet that moved on what is expected of its sender, `reset` that of the last verified RST at
-/// the number expected, `finished` that of a FIN that moved on; each is 0 where there is none.
+/// The segments from one socket to another with one KeyID and one RNextKeyID, or with no single ones, and protected
+/// alike, of which the check says the same, and, where they are verified, of one connection and under one row of the
+/// receiver's table: the number of their session, whether one is a SYN with ACK, how many there are, the earliest and
+/// the latest time at which one was seen, in seconds since 1970, and the number of the last packet. `reached` is the
+/// greatest number after the last byte of one that passed. `moved` is the number of the last packet that moved on
+/// what is expected of its sender, `reset` that of the last verified RST at the number expected, `finished` that of a
+/// FIN that moved on; each is 0 where there is none.
 #[derive(Clone, Copy, Debug, PartialEq, Eq)]
 pub struct KeyUse {
     pub session: u64,

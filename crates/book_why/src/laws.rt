@@ -17,9 +17,11 @@ ghost use Rattle.book_why.specs.Recipes.{Suspect, mac_made, recipe_of};
 /// where it doesn't.
 pub fn right_recipe_is_the_checks()
     ensures mac { (n : ℕ) (s : Suspect) → mac_made (recipe_of s) ≡ mac_of (suspect_finding n s) }
-    ensures passes { (rows : List Row) (pair : Pair) (known : Known) (now n : ℕ) (s : Suspect) → ComesToItsMac rows pair known now n s
+    ensures passes { (rows : List Row) (pair : Pair) (known : Known) (now n : ℕ) (s : Suspect)
+        → ComesToItsMac rows pair known now n s
         → s.ao.mac ≡ mac_made (recipe_of s) → judge rows pair known now s.segment ≡ Ok (suspect_finding n s) }
-    ensures refused { (rows : List Row) (pair : Pair) (known : Known) (now n : ℕ) (s : Suspect) → ComesToItsMac rows pair known now n s
+    ensures refused { (rows : List Row) (pair : Pair) (known : Known) (now n : ℕ) (s : Suspect)
+        → ComesToItsMac rows pair known now n s
         → s.ao.mac ≢ mac_made (recipe_of s) → judge rows pair known now s.segment ≡ Err BadMac }
 {}
 
@@ -27,9 +29,12 @@ pub fn right_recipe_is_the_checks()
 /// and none is told falsely. The table has each row of either node, and the initial sequence numbers of each other
 /// connection.
 pub fn lines_are_those_of_passing_changes()
-    ensures passing { (both : BothTables) (others : List IsnPair) (s : Suspect) (change : Change) → Contains (would_pass both others s) change
+    ensures passing { (both : BothTables) (others : List IsnPair) (s : Suspect) (change : Change)
+        → Contains (would_pass both others s) change
         ↔ (Contains (all_changes both others) change × (s.ao.mac ≡ mac_made (changed change both s))) }
-    ensures rows { (both : BothTables) (others : List IsnPair) (node : SegmentNode) (n : ℕ) → 1 ≤ n → n ≤ length (rows_there (table_at both node))
+    ensures rows { (both : BothTables) (others : List IsnPair) (node : SegmentNode) (n : ℕ) → 1 ≤ n
+        → n ≤ length (rows_there (table_at both node))
         → Contains (all_changes both others) (AnotherRow node n) }
-    ensures connections { (both : BothTables) (others : List IsnPair) (isns : IsnPair) → Contains others isns → Contains (all_changes both others) (OtherConnection isns) }
+    ensures connections { (both : BothTables) (others : List IsnPair) (isns : IsnPair) → Contains others isns
+        → Contains (all_changes both others) (OtherConnection isns) }
 {}

@@ -76,8 +76,10 @@ impl Checker {
     /// memory, the checker is as it was. Kept keys are dropped exactly where the initial sequence numbers
     /// of their connection are fixed anew.
     pub fn hold(&mut self, alloc: Global, given: GivenIsns) -> Result<bool, AllocError>
-        ensures stands { (held : List Connection) → StandsFor self.old.entries held → OnOk result (StandsFor self.new.entries (and_given given held)) }
-        ensures room { (held : List Connection) → StandsFor self.old.entries held → IfOk result (λ room. room ≡ has_room given held) }
+        ensures stands { (held : List Connection) → StandsFor self.old.entries held
+            → OnOk result (StandsFor self.new.entries (and_given given held)) }
+        ensures room { (held : List Connection) → StandsFor self.old.entries held
+            → IfOk result (λ room. room ≡ has_room given held) }
         ensures tables { self.new.tables ≡ self.old.tables }
         ensures unchanged { OnErr result (self.new ≡ self.old) }
         ensures keys { KeepsKeys self.old.entries self.new.entries }
@@ -105,7 +107,9 @@ impl Checker {
         ensures tables { self.new.tables ≡ self.old.tables }
         ensures unchanged { OnErr result (self.new ≡ self.old) }
         ensures keys { KeepsKeys self.old.entries self.new.entries }
-        ensures derives { (d : Segment) → reading bytes.now ≡ Read d → Derives self.old.entries self.new.entries (rows_of self.old.tables d.destination) time d steps.old steps.new }
+        ensures derives { (d : Segment) → reading bytes.now ≡ Read d
+            → Derives self.old.entries self.new.entries (rows_of self.old.tables d.destination) time d steps.old
+            steps.new }
         ensures idle { IfOk result (λ line. is_computed line ≡ false → steps.new ≡ steps.old) }
         ensures least { steps.old ≤ steps.new }
         ensures most { steps.new ≤ steps.old + 1 }
@@ -128,11 +132,13 @@ impl Checker {
         steps: &mut Steps<L>,
     ) -> Result<CheckLine, AllocError>
         ensures heard { (held : List Connection) → StandsFor self.old.entries held
-            → IfOk result (λ line. Hears self.new.entries line (hear_read self.old.tables held time (Read datagram.now))) }
+            → IfOk result (λ line. Hears self.new.entries line
+            (hear_read self.old.tables held time (Read datagram.now))) }
         ensures tables { self.new.tables ≡ self.old.tables }
         ensures unchanged { OnErr result (self.new ≡ self.old) }
         ensures keys { KeepsKeys self.old.entries self.new.entries }
-        ensures derives { Derives self.old.entries self.new.entries (rows_of self.old.tables datagram.now.destination) time datagram.now steps.old steps.new }
+        ensures derives { Derives self.old.entries self.new.entries (rows_of self.old.tables datagram.now.destination)
+            time datagram.now steps.old steps.new }
         ensures idle { IfOk result (λ line. is_computed line ≡ false → steps.new ≡ steps.old) }
         ensures least { steps.old ≤ steps.new }
         ensures most { steps.new ≤ steps.old + 1 }
@@ -157,11 +163,13 @@ impl Checker {
         requires later { has SYN datagram.now ≡ false }
         requires expected { expected ≤ 2 ^ 63 }
         ensures heard { (held : List Connection) → StandsFor self.old.entries held
-            → IfOk result (λ line. Hears self.new.entries line (hear_as self.old.tables held time datagram.now expected)) }
+            → IfOk result (λ line. Hears self.new.entries line
+            (hear_as self.old.tables held time datagram.now expected)) }
         ensures tables { self.new.tables ≡ self.old.tables }
         ensures unchanged { OnErr result (self.new ≡ self.old) }
         ensures keys { KeepsKeys self.old.entries self.new.entries }
-        ensures derives { Derives self.old.entries self.new.entries (rows_of self.old.tables datagram.now.destination) time datagram.now steps.old steps.new }
+        ensures derives { Derives self.old.entries self.new.entries (rows_of self.old.tables datagram.now.destination)
+            time datagram.now steps.old steps.new }
         ensures idle { IfOk result (λ line. is_computed line ≡ false → steps.new ≡ steps.old) }
         ensures least { steps.old ≤ steps.new }
         ensures most { steps.new ≤ steps.old + 1 }
@@ -174,7 +182,8 @@ impl Checker {
     /// definition, whatever connections the checker knows. None exactly where no connection is known
     /// between them, or they are one socket.
     pub fn known(&self, source: Socket, destination: Socket) -> Option<KnownConnection>
-        ensures known { (held : List Connection) → StandsFor self.now.entries held → same_socket source destination ≡ false → result ≡ known_numbers source destination held }
+        ensures known { (held : List Connection) → StandsFor self.now.entries held
+            → same_socket source destination ≡ false → result ≡ known_numbers source destination held }
         ensures one { same_socket source destination ≡ true → result ≡ None }
         ensures limit { IfSome result (λ k. k.expected ≤ 2 ^ 63) }
     {

@@ -61,8 +61,10 @@ impl Connections {
         given: GivenIsns,
     ) -> Result<bool, AllocError>
         requires sound { IsSound tables.now self.old }
-        ensures stands { (held : List Connection) → StandsFor self.old held → OnOk result (StandsFor self.new (and_given given held)) }
-        ensures room { (held : List Connection) → StandsFor self.old held → IfOk result (λ room. room ≡ has_room given held) }
+        ensures stands { (held : List Connection) → StandsFor self.old held
+            → OnOk result (StandsFor self.new (and_given given held)) }
+        ensures room { (held : List Connection) → StandsFor self.old held
+            → IfOk result (λ room. room ≡ has_room given held) }
         ensures unchanged { OnErr result (self.new ≡ self.old) }
         ensures sound { IsSound tables.now self.new }
         ensures keys { KeepsKeys self.old self.new }
@@ -85,7 +87,8 @@ impl Connections {
         ensures unchanged { OnErr result (self.new ≡ self.old) }
         ensures sound { IsSound tables.now self.new }
         ensures keys { KeepsKeys self.old self.new }
-        ensures derives { Derives self.old self.new (rows_of tables.now datagram.now.destination) time datagram.now steps.old steps.new }
+        ensures derives { Derives self.old self.new (rows_of tables.now datagram.now.destination) time datagram.now
+            steps.old steps.new }
         ensures idle { IfOk result (λ line. is_computed line ≡ false → steps.new ≡ steps.old) }
     {
         hear_datagram(&mut self.flows, alloc, tables, time, None, datagram, steps)
@@ -110,7 +113,8 @@ impl Connections {
         ensures unchanged { OnErr result (self.new ≡ self.old) }
         ensures sound { IsSound tables.now self.new }
         ensures keys { KeepsKeys self.old self.new }
-        ensures derives { Derives self.old self.new (rows_of tables.now datagram.now.destination) time datagram.now steps.old steps.new }
+        ensures derives { Derives self.old self.new (rows_of tables.now datagram.now.destination) time datagram.now
+            steps.old steps.new }
         ensures idle { IfOk result (λ line. is_computed line ≡ false → steps.new ≡ steps.old) }
     {
         hear_datagram(
@@ -126,7 +130,8 @@ impl Connections {
 
     /// The numbers of the connection between two sockets, as `Checker::known` tells them.
     pub fn known(&self, source: Socket, destination: Socket) -> Option<KnownConnection>
-        ensures known { (held : List Connection) → StandsFor self.now held → same_socket source destination ≡ false → result ≡ known_numbers source destination held }
+        ensures known { (held : List Connection) → StandsFor self.now held → same_socket source destination ≡ false
+            → result ≡ known_numbers source destination held }
         ensures one { same_socket source destination ≡ true → result ≡ None }
         ensures limit { (tables : List Sheet) → IsSound tables self.now → IfSome result (λ k. k.expected ≤ 2 ^ 63) }
     {

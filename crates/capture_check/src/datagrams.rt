@@ -1,6 +1,7 @@
 //! What a checker answers to a datagram, and what it takes for given, over what it knows of each
 //! connection.
-ghost use Rattle.std.specs.Prelude.{◌≡◌, ◌≤◌, ◌^◌, ◌+◌, Bool, false, true, List, IfOk, IfSome, IsSome, OnErr, OnOk, Some, None};
+ghost use Rattle.std.specs.Prelude.{◌≡◌, ◌≤◌, ◌^◌, ◌+◌, Bool, false, true, List, IfOk, IfSome, IsSome, OnErr, OnOk};
+ghost use Rattle.std.specs.Prelude.{Some, None};
 ghost use Rattle.std.specs.List.{find};
 ghost use Rattle.book_segments.specs.Segments.{Read, has, SYN};
 ghost use Rattle.book_segments.specs.Sockets.{same_socket};
@@ -45,11 +46,13 @@ fn hear_first<L: Ledger>(
     requires differ { same_socket datagram.now.source datagram.now.destination ≡ false }
     requires first { has SYN datagram.now ≡ true }
     ensures heard { (held : List Connection) → StandsFor connections.old.entries held
-        → IfOk result (λ line. Hears connections.new.entries line (hear_read tables.now held time (Read datagram.now))) }
+        → IfOk result (λ line. Hears connections.new.entries line
+        (hear_read tables.now held time (Read datagram.now))) }
     ensures unchanged { OnErr result (connections.new.entries ≡ connections.old.entries) }
     ensures sound { IsSound tables.now connections.new.entries }
     ensures keys { KeepsKeys connections.old.entries connections.new.entries }
-    ensures derives { Derives connections.old.entries connections.new.entries table.now.rows time datagram.now steps.old steps.new }
+    ensures derives { Derives connections.old.entries connections.new.entries table.now.rows time datagram.now
+        steps.old steps.new }
     ensures idle { IfOk result (λ line. is_computed line ≡ false → steps.new ≡ steps.old) }
 {
     let checksum = checksum_in(datagram);
@@ -86,11 +89,13 @@ fn hear_next<L: Ledger>(
     requires later { has SYN datagram.now ≡ false }
     requires given { IfSome given (λ n. n ≤ 2 ^ 63) }
     ensures heard { (held : List Connection) → StandsFor connections.old.entries held
-        → IfOk result (λ line. Hears connections.new.entries line (hear_given tables.now held time datagram.now given)) }
+        → IfOk result (λ line. Hears connections.new.entries line
+        (hear_given tables.now held time datagram.now given)) }
     ensures unchanged { OnErr result (connections.new.entries ≡ connections.old.entries) }
     ensures sound { IsSound tables.now connections.new.entries }
     ensures keys { KeepsKeys connections.old.entries connections.new.entries }
-    ensures derives { Derives connections.old.entries connections.new.entries table.now.rows time datagram.now steps.old steps.new }
+    ensures derives { Derives connections.old.entries connections.new.entries table.now.rows time datagram.now
+        steps.old steps.new }
     ensures idle { IfOk result (λ line. is_computed line ≡ false → steps.new ≡ steps.old) }
 {
     let checksum = checksum_in(datagram);
@@ -121,8 +126,10 @@ pub(crate) fn hold(
     given: GivenIsns,
 ) -> Result<bool, AllocError>
     requires sound { IsSound tables.now connections.old.entries }
-    ensures stands { (held : List Connection) → StandsFor connections.old.entries held → OnOk result (StandsFor connections.new.entries (and_given given held)) }
-    ensures room { (held : List Connection) → StandsFor connections.old.entries held → IfOk result (λ room. room ≡ has_room given held) }
+    ensures stands { (held : List Connection) → StandsFor connections.old.entries held
+        → OnOk result (StandsFor connections.new.entries (and_given given held)) }
+    ensures room { (held : List Connection) → StandsFor connections.old.entries held
+        → IfOk result (λ room. room ≡ has_room given held) }
     ensures unchanged { OnErr result (connections.new.entries ≡ connections.old.entries) }
     ensures sound { IsSound tables.now connections.new.entries }
     ensures keys { KeepsKeys connections.old.entries connections.new.entries }
@@ -151,11 +158,13 @@ pub(crate) fn hear_datagram<L: Ledger>(
     requires given { IfSome given (λ n. n ≤ 2 ^ 63) }
     requires later { IsSome given → has SYN datagram.now ≡ false }
     ensures heard { (held : List Connection) → StandsFor connections.old.entries held
-        → IfOk result (λ line. Hears connections.new.entries line (hear_given tables.now held time datagram.now given)) }
+        → IfOk result (λ line. Hears connections.new.entries line
+        (hear_given tables.now held time datagram.now given)) }
     ensures unchanged { OnErr result (connections.new.entries ≡ connections.old.entries) }
     ensures sound { IsSound tables.now connections.new.entries }
     ensures keys { KeepsKeys connections.old.entries connections.new.entries }
-    ensures derives { Derives connections.old.entries connections.new.entries (rows_of tables.now datagram.now.destination) time datagram.now steps.old steps.new }
+    ensures derives { Derives connections.old.entries connections.new.entries
+        (rows_of tables.now datagram.now.destination) time datagram.now steps.old steps.new }
     ensures idle { IfOk result (λ line. is_computed line ≡ false → steps.new ≡ steps.old) }
 {
     let destination = datagram.destination();
@@ -188,9 +197,11 @@ pub(crate) fn known(
     source: Socket,
     destination: Socket,
 ) -> Option<KnownConnection>
-    ensures known { (held : List Connection) → StandsFor connections.now.entries held → same_socket source destination ≡ false → result ≡ known_numbers source destination held }
+    ensures known { (held : List Connection) → StandsFor connections.now.entries held
+        → same_socket source destination ≡ false → result ≡ known_numbers source destination held }
     ensures one { same_socket source destination ≡ true → result ≡ None }
-    ensures limit { (tables : List Sheet) → IsSound tables connections.now.entries → IfSome result (λ k. k.expected ≤ 2 ^ 63) }
+    ensures limit { (tables : List Sheet) → IsSound tables connections.now.entries
+        → IfSome result (λ k. k.expected ≤ 2 ^ 63) }
 {
     if is_same_socket(&source, &destination) {
         return None;

@@ -60,7 +60,8 @@ pub(crate) fn hear_later<L: Ledger>(
     requires table { find (has_address datagram.now.destination.address) tables.now ≡ Some table.now }
     requires differ { same_socket datagram.now.source datagram.now.destination ≡ false }
     requires given { IfSome given (λ n. n ≤ 2 ^ 63) }
-    ensures heard { IfOk result (λ v. HearsLater table.now.rows time given datagram.now connections.old.entries connections.new.entries (found connections.old.entries (key_at datagram.now)) v steps.old steps.new) }
+    ensures heard { IfOk result (λ v. HearsLater table.now.rows time given datagram.now connections.old.entries
+        connections.new.entries (found connections.old.entries (key_at datagram.now)) v steps.old steps.new) }
     ensures idle { IfOk result (λ v. is_judged v ≡ false → steps.new ≡ steps.old) }
     ensures unchanged { OnErr result (connections.new.entries ≡ connections.old.entries) }
     ensures free { OnErr result (AloneCounts table.now.rows time datagram.now steps.old steps.new) }
@@ -83,7 +84,11 @@ pub(crate) fn fix_given(
     tables: &Tables,
     given: GivenIsns,
 ) -> Result<bool, AllocError>
-    ensures fixed { IfOk result (λ b. DoesFix (fixing_given tables.now given (found connections.old.entries (sorted_pair given.one given.other)) (length connections.old.entries)) connections.old.entries connections.new.entries (sorted_pair given.one given.other) b) }
+    ensures fixed { IfOk result
+        (λ b. DoesFix
+        (fixing_given tables.now given (found connections.old.entries (sorted_pair given.one given.other))
+        (length connections.old.entries)) connections.old.entries connections.new.entries
+        (sorted_pair given.one given.other) b) }
     ensures unchanged { OnErr result (connections.new.entries ≡ connections.old.entries) }
 {
     let ends = Pair::sorted(given.one, given.other);
@@ -134,7 +139,9 @@ pub(crate) fn fix(
     tables: &Tables,
     datagram: &Datagram<'_>,
 ) -> Result<bool, AllocError>
-    ensures fixed { IfOk result (λ b. DoesFix (fixing tables.now datagram.now (found connections.old.entries (key_at datagram.now)) (length connections.old.entries)) connections.old.entries connections.new.entries (key_at datagram.now) b) }
+    ensures fixed { IfOk result
+        (λ b. DoesFix (fixing tables.now datagram.now (found connections.old.entries (key_at datagram.now))
+        (length connections.old.entries)) connections.old.entries connections.new.entries (key_at datagram.now) b) }
     ensures unchanged { OnErr result (connections.new.entries ≡ connections.old.entries) }
     ensures sequence { datagram.now.sequence < 2 ^ 32 }
 {

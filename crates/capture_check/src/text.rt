@@ -14,7 +14,8 @@ use std::alloc::AllocError;
 use text_lines::{push_field, push_newline, push_text};
 
 fn push_pass(out: &mut Vec<u8>, passed: &Passed) -> Result<(), AllocError>
-    ensures { OnOk result (out.new.items ≡ out.old.items ++ spaced (codes "pass" ∷ codes "row" ∷ decimal passed.now.row ∷ codes "number" ∷ decimal passed.now.number ∷ [])) }
+    ensures { OnOk result (out.new.items ≡ out.old.items ++ spaced
+        (codes "pass" ∷ codes "row" ∷ decimal passed.now.row ∷ codes "number" ∷ decimal passed.now.number ∷ [])) }
 {
     push_text(out, b"pass")?;
     push_field(out, b"row", u64::from(passed.row))?;
@@ -68,7 +69,8 @@ fn push_answer(out: &mut Vec<u8>, line: &CheckLine) -> Result<(), AllocError>
 /// Puts the line of an answer behind `out`: the number of the line that the segment was stored in,
 /// and what is said of the segment. Where memory runs out, a part of it may stand there.
 pub fn push_check_line(out: &mut Vec<u8>, number: u64, line: &CheckLine) -> Result<(), AllocError>
-    ensures { (s : Saying) → Says line.now s → OnOk result (out.new.items ≡ out.old.items ++ numbered_text number (saying_texts s)) }
+    ensures { (s : Saying) → Says line.now s
+        → OnOk result (out.new.items ≡ out.old.items ++ numbered_text number (saying_texts s)) }
 {
     push_decimal(out, number)?;
     push_answer(out, line)?;

@@ -41,7 +41,8 @@ pub(crate) fn is_opened_anew(
     openings: &Openings,
     datagram: &Datagram<'_>,
 ) -> bool
-    ensures { (cs : List Connection) (opened : List Opening) → StandsFor held.now cs → KeepsOpenings openings.now.isns.entries opened
+    ensures { (cs : List Connection) (opened : List Opening) → StandsFor held.now cs
+        → KeepsOpenings openings.now.isns.entries opened
         → result ≡ is_opened_anew datagram.now cs opened }
 {
     if datagram.has(Flag::Syn) {

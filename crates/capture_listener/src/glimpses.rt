@@ -38,7 +38,8 @@ fn begin(
     given: GivenIsns,
 ) -> Result<(), AllocError>
     requires sound { IsSound tables.now guesses.old }
-    ensures stands { (guessed : List Connection) → StandsFor guesses.old guessed → OnOk result (StandsFor guesses.new (and_given given guessed)) }
+    ensures stands { (guessed : List Connection) → StandsFor guesses.old guessed
+        → OnOk result (StandsFor guesses.new (and_given given guessed)) }
     ensures unchanged { OnErr result (guesses.new ≡ guesses.old) }
     ensures sound { IsSound tables.now guesses.new }
 {
@@ -54,7 +55,8 @@ fn begin_anew(
     given: GivenIsns,
 ) -> Result<(), AllocError>
     requires sound { IsSound tables.now guesses.old }
-    ensures stands { (guessed : List Connection) → StandsFor guesses.old guessed → OnOk result (StandsFor guesses.new (and_begun given guessed)) }
+    ensures stands { (guessed : List Connection) → StandsFor guesses.old guessed
+        → OnOk result (StandsFor guesses.new (and_begun given guessed)) }
     ensures unchanged { OnErr result (guesses.new ≡ guesses.old) }
     ensures sound { IsSound tables.now guesses.new }
 {
@@ -80,7 +82,8 @@ pub(crate) fn glimpse(
     line: &CheckLine,
 ) -> Result<(), AllocError>
     requires sound { IsSound tables.now guesses.old }
-    ensures stands { (said : Saying) (opened : List Opening) (guessed : List Connection) → Says line.now said → KeepsOpenings openings.now.isns.entries opened → StandsFor guesses.old guessed
+    ensures stands { (said : Saying) (opened : List Opening) (guessed : List Connection) → Says line.now said
+        → KeepsOpenings openings.now.isns.entries opened → StandsFor guesses.old guessed
         → OnOk result (StandsFor guesses.new (glimpsed datagram.now said opened guessed)) }
     ensures unchanged { OnErr result (guesses.new ≡ guesses.old) }
     ensures cause { OnErr result (says_refused line.now ≡ true) }
@@ -113,7 +116,8 @@ fn acknowledged_isn(datagram: &Datagram<'_>) -> u32
 
 /// Keeps no opening but the one that an answer acknowledges.
 fn note_answer(openings: &mut Openings, datagram: &Datagram<'_>)
-    ensures { (opened : List Opening) → KeepsOpenings openings.old.isns.entries opened → KeepsOpenings openings.new.isns.entries (answered_by datagram.now opened) }
+    ensures { (opened : List Opening) → KeepsOpenings openings.old.isns.entries opened
+        → KeepsOpenings openings.new.isns.entries (answered_by datagram.now opened) }
 {
     let isn = acknowledged_isn(datagram);
     match openings.get(datagram.destination(), datagram.source()) {
@@ -133,7 +137,8 @@ pub(crate) fn note_opening(
     datagram: &Datagram<'_>,
     line: &CheckLine,
 ) -> Result<(), AllocError>
-    ensures keeps { (said : Saying) (opened : List Opening) → Says line.now said → KeepsOpenings openings.old.isns.entries opened
+    ensures keeps { (said : Saying) (opened : List Opening) → Says line.now said
+        → KeepsOpenings openings.old.isns.entries opened
         → OnOk result (KeepsOpenings openings.new.isns.entries (openings_after datagram.now said opened)) }
     ensures unchanged { OnErr result (openings.new.isns.entries ≡ openings.old.isns.entries) }
     ensures cause { OnErr result ((has SYN datagram.now ≡ true) × (has ACK datagram.now ≡ false)) }

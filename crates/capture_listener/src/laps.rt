@@ -35,9 +35,13 @@ fn search<L: Ledger>(
     requires sound { IsSound tables.now connections.old }
     requires later { has SYN datagram.now ≡ false }
     requires limit { expected ≤ 2 ^ 63 }
-    ensures finds { (held : List Connection) (c : Connection) → StandsFor connections.old held → connection_between datagram.now held ≡ Some c → c.one.expected ≡ expected
-        → IfOk result (λ found. Finds connections.new held found (first_from (heard_ahead (heard_by (record { tables = tables.now; laps = laps }) time datagram.now) held c) laps 1)) }
-    ensures stands { (held : List Connection) (c : Connection) → StandsFor connections.old held → connection_between datagram.now held ≡ Some c → OnErr result (StandsFor connections.new held) }
+    ensures finds { (held : List Connection) (c : Connection) → StandsFor connections.old held
+        → connection_between datagram.now held ≡ Some c → c.one.expected ≡ expected
+        → IfOk result (λ found. Finds connections.new held found
+        (first_from (heard_ahead (heard_by (record { tables = tables.now; laps = laps }) time datagram.now) held c)
+        laps 1)) }
+    ensures stands { (held : List Connection) (c : Connection) → StandsFor connections.old held
+        → connection_between datagram.now held ≡ Some c → OnErr result (StandsFor connections.new held) }
     ensures sound { IsSound tables.now connections.new }
 {
     let mut number = expected;
@@ -70,8 +74,11 @@ pub(crate) fn hear_over<L: Ledger>(
 ) -> Result<CheckLine, AllocError>
     requires sound { IsSound tables.now connections.old }
     ensures heard { (held : List Connection) → StandsFor connections.old held
-        → IfOk result (λ line. Hears connections.new line (hear_over (record { tables = tables.now; laps = laps }) held time datagram.now)) }
-    ensures stands { (held : List Connection) → StandsFor connections.old held → OnErr result (StandsFor connections.new held) }
+        → IfOk result
+        (λ line. Hears connections.new line (hear_over (record { tables = tables.now; laps = laps }) held time
+        datagram.now)) }
+    ensures stands { (held : List Connection) → StandsFor connections.old held
+        → OnErr result (StandsFor connections.new held) }
     ensures sound { IsSound tables.now connections.new }
 {
     let line = connections.hear(alloc, tables, time, datagram, steps)?;

@@ -1,6 +1,7 @@
 //! What a line of a checker says.
 ghost use Rattle.std.specs.Prelude.{◌≡◌};
-ghost use Rattle.capture_listener.specs.Lines.{is_refusal, line_anew, verdict_anew, says_bad_mac, says_judged, says_range, says_refused, says_searched, says_unknown};
+ghost use Rattle.capture_listener.specs.Lines.{is_refusal, line_anew, verdict_anew, says_bad_mac, says_judged};
+ghost use Rattle.capture_listener.specs.Lines.{says_range, says_refused, says_searched, says_unknown};
 
 use book_endpoint::Verdict;
 use capture_check::CheckLine;

@@ -39,7 +39,12 @@ impl Model for Listener {
 
     ghost Value = { Hearing };
 
-    ghost view = { λ l. record { judging = record { tables = l.tables; laps = l.laps }; held = l.held; guessed = l.guesses; openings = l.openings.isns.entries } };
+    ghost view = { λ l. record {
+      judging = record { tables = l.tables; laps = l.laps };
+      held = l.held;
+      guessed = l.guesses;
+      openings = l.openings.isns.entries;
+    } };
 
     ghost invariant = { λ l. IsSound l.tables l.held × IsSound l.tables l.guesses };
 }
@@ -87,7 +92,8 @@ impl Listener {
     /// those of the definition, whatever was known. False exactly where there is no room: the connection
     /// isn't held and 65,536 others are; then, and after want of memory, the listener is as it was.
     pub fn hold(&mut self, alloc: Global, given: GivenIsns) -> Result<bool, AllocError>
-        ensures knows { (k : Listening) → Knows self.old k → OnOk result (Knows self.new (record { held = and_given given k.held; guessed = k.guessed; openings = k.openings })) }
+        ensures knows { (k : Listening) → Knows self.old k → OnOk result
+            (Knows self.new (record { held = and_given given k.held; guessed = k.guessed; openings = k.openings })) }
         ensures room { (k : Listening) → Knows self.old k → IfOk result (λ room. room ≡ has_room given k.held) }
         ensures judging { self.new.judging ≡ self.old.judging }
         ensures unchanged { OnErr result (self.new ≡ self.old) }
@@ -107,8 +113,10 @@ impl Listener {
         datagram: &Datagram<'_>,
         steps: &mut Steps<L>,
     ) -> Result<HeardSegment, AllocError>
-        ensures heard { (k : Listening) → Knows self.old k → IfOk result (λ told. Listens self.new told datagram.now (listen self.old.judging k time (Read datagram.now))) }
-        ensures still { (k : Listening) → Knows self.old k → OnErr result (KnowsStill self.new self.old.judging k time datagram.now) }
+        ensures heard { (k : Listening) → Knows self.old k → IfOk result
+            (λ told. Listens self.new told datagram.now (listen self.old.judging k time (Read datagram.now))) }
+        ensures still { (k : Listening) → Knows self.old k → OnErr result
+            (KnowsStill self.new self.old.judging k time datagram.now) }
         ensures judging { self.new.judging ≡ self.old.judging }
     {
         let anew = is_opened_anew(&self.held, &self.openings, datagram);

@@ -53,7 +53,8 @@ impl Openings {
         destination: Socket,
         opening: KeptOpening,
     ) -> Result<(), AllocError>
-        ensures put { OnOk result (PutsOpening self.old.isns.entries self.new.isns.entries (way_between source destination) (Some opening)) }
+        ensures put { OnOk result (PutsOpening self.old.isns.entries self.new.isns.entries
+            (way_between source destination) (Some opening)) }
         ensures unchanged { OnErr result (self.new.isns.entries ≡ self.old.isns.entries) }
     {
         self.isns.insert(way_between(source, destination), opening)?;

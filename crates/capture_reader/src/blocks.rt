@@ -1,6 +1,7 @@
 //! The blocks of a pcapng file.
 ghost use Rattle.std.specs.Prelude.{◌≡◌, ◌≤◌, length, IfOk};
-ghost use Rattle.book_captures.specs.Blocks.{told_order as order_told, order_at as order_in, length_fault as fault_of_length, block_of_length, block_at};
+ghost use Rattle.book_captures.specs.Blocks.{told_order as order_told, order_at as order_in};
+ghost use Rattle.book_captures.specs.Blocks.{length_fault as fault_of_length, block_of_length, block_at};
 ghost use Rattle.capture_reader.specs.Found.{Gives, seen_block, as_it_is};
 ghost use Rattle.capture_reader.specs.Places.{placed};
 

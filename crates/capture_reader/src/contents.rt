@@ -1,6 +1,11 @@
 //! What the blocks of a pcapng file say.
 ghost use Rattle.std.specs.Prelude.{◌≡◌, ◌<◌, ◌==◌, ◌&&◌, length, drop, MatchOption, Some, None};
-ghost use Rattle.book_captures.specs.BlockContents.{resolution_of as resolution_of_byte, resolution_told as resolution_told_by, option_in as value_of_option, eight_at, offset_of as offset_told, offset_by as offset_told_by, interface_in, stamped_in, enhanced_in, old_in, simple_length as length_of_simple, simple_in, padded_length};
+ghost use Rattle.book_captures.specs.BlockContents.resolution_of as resolution_of_byte;
+ghost use Rattle.book_captures.specs.BlockContents.resolution_told as resolution_told_by;
+ghost use Rattle.book_captures.specs.BlockContents.{option_in as value_of_option, eight_at};
+ghost use Rattle.book_captures.specs.BlockContents.{offset_of as offset_told, offset_by as offset_told_by};
+ghost use Rattle.book_captures.specs.BlockContents.{interface_in, stamped_in, enhanced_in, old_in};
+ghost use Rattle.book_captures.specs.BlockContents.{simple_length as length_of_simple, simple_in, padded_length};
 ghost use Rattle.capture_reader.specs.Found.{Gives, as_it_is, seen_stamped, seen_plain};
 
 use book_captures::{BodyFault, Interface, TimeOffset, TimeResolution};
@@ -50,7 +55,8 @@ pub fn read_interface(order: ByteOrder, body: &[u8]) -> Result<Interface, BodyFa
 #[tactic(auto, using(crate::proofs::Options::option_steps))]
 fn option_in(order: ByteOrder, code: u16, size: usize, options: &[u8], most: usize) -> Option<&[u8]>
     requires { size < 65536 }
-    ensures { MatchOption result (value_of_option most order code size options.now ≡ None) (λ value. (value_of_option most order code size options.now ≡ Some value.now) × (length value.now ≡ size)) }
+    ensures { MatchOption result (value_of_option most order code size options.now ≡ None)
+        (λ value. (value_of_option most order code size options.now ≡ Some value.now) × (length value.now ≡ size)) }
 {
     let mut options = options;
     'options: for _ in 0..most {

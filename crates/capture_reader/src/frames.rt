@@ -1,6 +1,7 @@
 //! The datagram in a frame.
 ghost use Rattle.std.specs.Prelude.{◌≡◌, ◌≤◌, ◌-◌, length, drop, IfOk};
-ghost use Rattle.book_captures.specs.Frames.{version_by as version_allowed, version_in as version_of_layer, datagram_at, as_cut as seen_as_cut, missing_from, datagram_in};
+ghost use Rattle.book_captures.specs.Frames.{version_by as version_allowed, version_in as version_of_layer};
+ghost use Rattle.book_captures.specs.Frames.{datagram_at, as_cut as seen_as_cut, missing_from, datagram_in};
 ghost use Rattle.capture_reader.specs.Found.{Gives, layer, seen, as_it_is};
 
 use crate::layers::{Follows, innermost};

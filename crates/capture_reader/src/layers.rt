@@ -1,6 +1,8 @@
 //! The headers in front of a datagram, one after another.
 ghost use Rattle.std.specs.Prelude.{◌≡◌, ◌≤◌, length};
-ghost use Rattle.book_captures.specs.Frames.{or_else, link_header_length as length_of_header, protocol_in as protocol_told, family, behind_link, behind_tags, behind_session, behind_labels, innermost as innermost_layer};
+ghost use Rattle.book_captures.specs.Frames.{or_else, link_header_length as length_of_header};
+ghost use Rattle.book_captures.specs.Frames.{protocol_in as protocol_told, family, behind_link, behind_tags};
+ghost use Rattle.book_captures.specs.Frames.{behind_session, behind_labels, innermost as innermost_layer};
 ghost use Rattle.book_pcap.specs.Packets.{four_at};
 ghost use Rattle.capture_reader.specs.Found.{Gives, layer};
 
@@ -74,7 +76,8 @@ fn protocol_in(link: LinkType, frame: &[u8]) -> Protocol
 // What an address family says that follows it, in the order of bytes in which it is one.
 fn loopback_protocol(frame: &[u8]) -> Protocol
     requires { 4 ≤ length frame.now }
-    ensures { result ≡ or_else (family (four_at ByteOrder.Big frame.now 0)) (family (four_at ByteOrder.Little frame.now 0)) }
+    ensures { result ≡ or_else (family (four_at ByteOrder.Big frame.now 0))
+        (family (four_at ByteOrder.Little frame.now 0)) }
 {
     match family(u32_at(ByteOrder::Big, frame, 0)) {
         Protocol::Other => family(u32_at(ByteOrder::Little, frame, 0)),

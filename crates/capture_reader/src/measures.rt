@@ -1,6 +1,7 @@
 //! How long a datagram is, and how much of it there is.
 ghost use Rattle.std.specs.Prelude.{◌≡◌, ◌+◌, ◌<◌, ◌^◌, ◌≤◌, length};
-ghost use Rattle.book_captures.specs.Frames.{is_zero as zero_at, told_length as length_told, full_length as length_in_full, extent_of as extent_wanted};
+ghost use Rattle.book_captures.specs.Frames.{is_zero as zero_at, told_length as length_told};
+ghost use Rattle.book_captures.specs.Frames.{full_length as length_in_full, extent_of as extent_wanted};
 
 use book_captures::{Extent, IpVersion};
 use book_pcap::ByteOrder;

@@ -1,7 +1,10 @@
 //! A part of a file: a record of a classic pcap file, or a block of a pcapng file.
 ghost use Rattle.std.specs.Prelude.{◌≡◌, ◌+◌, ◌^◌, ◌<◌, ◌≤◌, ℕ, length, slice_range, IfOk};
 ghost use Rattle.book_captures.specs.PcapFiles.{pcap_record_at};
-ghost use Rattle.book_captures.specs.Parts.{record_part as part_of_record, part_by, section_said as section_says, interface_said as interface_says, old_said as old_says, simple_said as simple_says, enhanced_said as enhanced_says, stamped_said as stamped_says, block_said};
+ghost use Rattle.book_captures.specs.Parts.{record_part as part_of_record, part_by, section_said as section_says};
+ghost use Rattle.book_captures.specs.Parts.{interface_said as interface_says, old_said as old_says};
+ghost use Rattle.book_captures.specs.Parts.{simple_said as simple_says, enhanced_said as enhanced_says};
+ghost use Rattle.book_captures.specs.Parts.{stamped_said as stamped_says, block_said};
 ghost use Rattle.capture_reader.specs.Found.{Gives, seen_stamped};
 ghost use Rattle.capture_reader.specs.FoundParts.{seen_said, seen_part, block_says, moved_by, IsWithin, IsPartWithin};
 
@@ -75,7 +78,8 @@ pub fn read_part(format: Format, interfaces: &[Interface], text: &[u8]) -> Resul
 
 // The part that the record at the front is.
 fn record_part(head: PcapHead, interfaces: &[Interface], text: &[u8]) -> Result<FoundPart, Cause>
-    ensures exact { Gives (seen_part interfaces.now text.now) result (part_of_record head (pcap_record_at head text.now)) }
+    ensures exact { Gives (seen_part interfaces.now text.now) result
+        (part_of_record head (pcap_record_at head text.now)) }
     ensures within { IfOk result (λ p. IsPartWithin p (length interfaces.now) (length text.now)) }
 {
     match read_record(head, text) {
@@ -140,7 +144,8 @@ fn read_said(
     kind: u32,
     body: &[u8],
 ) -> Result<PartSays, BodyFault>
-    ensures exact { Gives (seen_said interfaces.now body.now) result (block_said interfaces.now (record { order = order; kind = kind; body = body.now })) }
+    ensures exact { Gives (seen_said interfaces.now body.now) result
+        (block_said interfaces.now (record { order = order; kind = kind; body = body.now })) }
     ensures within { IfOk result (λ s. IsWithin s (length interfaces.now) (length body.now)) }
 {
     match kind {
@@ -161,7 +166,8 @@ fn section_said(
     interfaces: &[Interface],
     body: &[u8],
 ) -> Result<PartSays, BodyFault>
-    ensures exact { Gives (seen_said interfaces.now body.now) result (section_says (record { order = order; kind = kind; body = body.now })) }
+    ensures exact { Gives (seen_said interfaces.now body.now) result
+        (section_says (record { order = order; kind = kind; body = body.now })) }
     ensures within { IfOk result (λ s. IsWithin s (length interfaces.now) (length body.now)) }
 {
     if body.len() < 16 {
@@ -181,7 +187,8 @@ fn interface_said(
     interfaces: &[Interface],
     body: &[u8],
 ) -> Result<PartSays, BodyFault>
-    ensures exact { Gives (seen_said interfaces.now body.now) result (interface_says interfaces.now (record { order = order; kind = kind; body = body.now })) }
+    ensures exact { Gives (seen_said interfaces.now body.now) result
+        (interface_says interfaces.now (record { order = order; kind = kind; body = body.now })) }
     ensures within { IfOk result (λ s. IsWithin s (length interfaces.now) (length body.now)) }
 {
     let interface = read_interface(order, body)?;
@@ -199,7 +206,8 @@ fn old_said(
     interfaces: &[Interface],
     body: &[u8],
 ) -> Result<PartSays, BodyFault>
-    ensures exact { Gives (seen_said interfaces.now body.now) result (old_says interfaces.now (record { order = order; kind = kind; body = body.now })) }
+    ensures exact { Gives (seen_said interfaces.now body.now) result
+        (old_says interfaces.now (record { order = order; kind = kind; body = body.now })) }
     ensures within { IfOk result (λ s. IsWithin s (length interfaces.now) (length body.now)) }
 {
     match read_old(order, body) {
@@ -215,7 +223,8 @@ fn enhanced_said(
     interfaces: &[Interface],
     body: &[u8],
 ) -> Result<PartSays, BodyFault>
-    ensures exact { Gives (seen_said interfaces.now body.now) result (enhanced_says interfaces.now (record { order = order; kind = kind; body = body.now })) }
+    ensures exact { Gives (seen_said interfaces.now body.now) result
+        (enhanced_says interfaces.now (record { order = order; kind = kind; body = body.now })) }
     ensures within { IfOk result (λ s. IsWithin s (length interfaces.now) (length body.now)) }
 {
     match read_enhanced(order, body) {
@@ -232,7 +241,8 @@ fn stamped_said(
 ) -> Result<PartSays, BodyFault>
     requires place { slice_range body.now 20 (20 + length packet.bytes.now) ≡ packet.bytes.now }
     requires within { 20 + length packet.bytes.now ≤ length body.now }
-    ensures exact { Gives (seen_said interfaces.now body.now) result (stamped_says interfaces.now (seen_stamped packet.entry)) }
+    ensures exact { Gives (seen_said interfaces.now body.now) result
+        (stamped_says interfaces.now (seen_stamped packet.entry)) }
     ensures within { IfOk result (λ s. IsWithin s (length interfaces.now) (length body.now)) }
 {
     match interfaces.get(packet.interface as usize) {
@@ -254,7 +264,8 @@ fn simple_said(
     interfaces: &[Interface],
     body: &[u8],
 ) -> Result<PartSays, BodyFault>
-    ensures exact { Gives (seen_said interfaces.now body.now) result (simple_says interfaces.now (record { order = order; kind = kind; body = body.now })) }
+    ensures exact { Gives (seen_said interfaces.now body.now) result
+        (simple_says interfaces.now (record { order = order; kind = kind; body = body.now })) }
     ensures within { IfOk result (λ s. IsWithin s (length interfaces.now) (length body.now)) }
 {
     let Some(interface) = interfaces.first() else {

@@ -1,6 +1,7 @@
 //! The header and the records of a classic pcap file.
 ghost use Rattle.std.specs.Prelude.{◌≡◌, ◌≤◌, length, IfOk};
-ghost use Rattle.book_captures.specs.PcapFiles.{resolution_by as resolution_told, head_by as head_in, pcap_head, record_time as time_of_record, pcap_record_at};
+ghost use Rattle.book_captures.specs.PcapFiles.{resolution_by as resolution_told, head_by as head_in, pcap_head};
+ghost use Rattle.book_captures.specs.PcapFiles.{record_time as time_of_record, pcap_record_at};
 ghost use Rattle.capture_reader.specs.Found.{Gives, seen_record};
 
 use book_captures::{PcapHead, PcapHeadFault, RecordFault, Resolution};

@@ -4,7 +4,8 @@ ghost use Rattle.book_pcap.specs.Packets.{four_at};
 ghost use Rattle.book_captures.specs.Blocks.{order_at as order_told, length_fault as fault_of_length};
 ghost use Rattle.book_captures.specs.Parts.{is_pcapng as begins_with_section, capture_opened};
 ghost use Rattle.capture_reader.specs.Found.{Gives, as_it_is};
-ghost use Rattle.capture_reader.specs.Sizes.{seen_front, needed, head_length, short_of, told_size, record_size as size_of_record, block_size as size_of_block};
+ghost use Rattle.capture_reader.specs.Sizes.{seen_front, needed, head_length, short_of, told_size};
+ghost use Rattle.capture_reader.specs.Sizes.{record_size as size_of_record, block_size as size_of_block};
 
 use crate::blocks::{LEAST_IN_BLOCK, SECTION_HEADER, length_fault, order_at};
 use crate::pcap_files::{MOST_KEPT, PCAP_HEAD, RECORD_HEAD, read_pcap_head};

@@ -36,7 +36,8 @@ pub(crate) fn open<S: Source>(
 ) -> Opened
     requires room { 24 ≤ buffer.old.size }
     requires first { had ≡ None → interfaces.now ≡ [] }
-    ensures { (given : List ℕ) × Opens had interfaces.now buffer.old buffer.new (S.side src.old) (S.side src.new) given result }
+    ensures { (given : List ℕ) × Opens had interfaces.now buffer.old buffer.new (S.side src.old) (S.side src.new) given
+        result }
 {
     let _kept = buffer.kept();
     if let Some(format) = had {
@@ -70,7 +71,8 @@ pub(crate) fn find_part<S: Source>(
     interfaces: &[Interface],
 ) -> Found
     requires { 16842752 ≤ buffer.old.size }
-    ensures { (given : List ℕ) × Finds format interfaces.now buffer.old buffer.new (S.side src.old) (S.side src.new) given result }
+    ensures { (given : List ℕ) × Finds format interfaces.now buffer.old buffer.new (S.side src.old) (S.side src.new)
+        given result }
 {
     match fill(buffer, src, part_head(format)) {
         Filled::Fault => return Found::Fault,

@@ -1,5 +1,6 @@
 //! The packets of a capture, one after another.
-ghost use Rattle.std.specs.Prelude.{◌≡◌, ◌+◌, ◌<◌, ◌≤◌, ℕ, true, false, List, length, IfOk, IsSome, IfSome, Some, None, Ok, Err};
+ghost use Rattle.std.specs.Prelude.{◌≡◌, ◌+◌, ◌<◌, ◌≤◌, ℕ, true, false, List, length, IfOk, IsSome, IfSome, Some};
+ghost use Rattle.std.specs.Prelude.{None, Ok, Err};
 ghost use Rattle.ao_base.specs.Outside.{Side, told};
 ghost use Rattle.book_captures.specs.Captures.{frame_datagram};
 ghost use Rattle.capture_reader.specs.Found.{Gives, seen};
@@ -71,9 +72,24 @@ impl Model for CaptureReader {
 
     ghost Value = { Reading };
 
-    ghost view = { λ r. record { kept = r.buffer.kept; place = place_of r.format r.interfaces; counts = record { packets = r.packets; parts = r.parts; bytes = r.bytes }; passed = r.passed; over = r.over; packet = cond r.shown (Some (record { number = r.packets; frame = record { time = r.time; link = r.link; original = r.original; bytes = r.buffer.piece } })) None } };
+    ghost view = { λ r. record {
+      kept = r.buffer.kept;
+      place = place_of r.format r.interfaces;
+      counts = record { packets = r.packets; parts = r.parts; bytes = r.bytes };
+      passed = r.passed;
+      over = r.over;
+      packet = cond r.shown (Some (record { number = r.packets;
+            frame = record {
+              time = r.time;
+              link = r.link;
+              original = r.original;
+              bytes = r.buffer.piece;
+            };
+          })) None;
+    } };
 
-    ghost invariant = { λ r. (r.bytes ≤ 9223372036854775808) × (r.parts ≤ r.bytes) × (r.packets + r.passed ≤ r.parts) × (r.buffer.size ≡ 16842752) × (r.format ≡ None → r.interfaces ≡ []) };
+    ghost invariant = { λ r. (r.bytes ≤ 9223372036854775808) × (r.parts ≤ r.bytes) × (r.packets + r.passed ≤ r.parts)
+        × (r.buffer.size ≡ 16842752) × (r.format ≡ None → r.interfaces ≡ []) };
 }
 
 impl CaptureReader {
@@ -112,7 +128,8 @@ impl CaptureReader {
     pub fn next<S: Source>(&mut self, src: &mut S) -> Result<CaptureStep, CaptureHalt>
         requires { self.old.over ≡ false }
         ensures steps { (given : List ℕ) × Steps self.old self.new (S.side src.old) (S.side src.new) given result }
-        ensures walks { (left : List ℕ) → (S.side src.old).bytes ≡ Some left → Walks self.old self.new left (told (S.side src.new).bytes) result }
+        ensures walks { (left : List ℕ) → (S.side src.old).bytes ≡ Some left
+            → Walks self.old self.new left (told (S.side src.new).bytes) result }
         ensures shown { result ≡ Ok CaptureStep.Packet → IsSome self.new.packet }
     {
         self.advance(src)

@@ -14,5 +14,6 @@ ghost use Rattle.cmd_bgp.specs.Tellings.{SpeaksInOrder, TellsMessages};
 /// every list of events (RFC 4271, sections 4 and 6.1).
 pub fn messages_come_in_order()
     ensures told { (setup : Setup) (events : List Event) → TellsMessages setup events }
-    ensures begins { (setup : Setup) (events : List Event) → SetupFits setup → AllByRecursion EventFits events → SpeaksInOrder (run setup events) }
+    ensures begins { (setup : Setup) (events : List Event) → SetupFits setup → AllByRecursion EventFits events
+        → SpeaksInOrder (run setup events) }
 {}

@@ -23,7 +23,8 @@ pub(crate) struct Place {
 
 /// Puts the name, the end and the number of its session behind `out`, a space in front of each.
 fn push_place(out: &mut Vec<u8>, place: &Place, name: &[u8]) -> Result<(), AllocError>
-    ensures { OnOk result (out.new.items ≡ out.old.items ++ spaced (name.now ∷ end_text place.now.end ∷ decimal place.now.session ∷ [])) }
+    ensures { OnOk result (out.new.items ≡ out.old.items ++ spaced
+        (name.now ∷ end_text place.now.end ∷ decimal place.now.session ∷ [])) }
 {
     push_text(out, name)?;
     push_end(out, place.end)?;
@@ -60,7 +61,8 @@ fn fault_word(fault: BgpFault) -> &'static [u8]
 /// Puts a fault, and the number of bytes of messages before it, behind `out`, a space in front of
 /// each text.
 fn push_reason(out: &mut Vec<u8>, fault: BgpFault, at: u64) -> Result<(), AllocError>
-    ensures { OnOk result (out.new.items ≡ out.old.items ++ spaced (bgp_fault_text fault ∷ codes "at" ∷ decimal at ∷ [])) }
+    ensures { OnOk result (out.new.items ≡ out.old.items ++ spaced
+        (bgp_fault_text fault ∷ codes "at" ∷ decimal at ∷ [])) }
 {
     push_text(out, fault_word(fault))?;
     push_field(out, b"at", at)
@@ -74,7 +76,8 @@ pub(crate) fn push_fault(
     at: u64,
 ) -> Result<(), AllocError>
     ensures { OnOk result (out.new.items ≡ out.old.items ++ numbered_text place.now.number
-        (codes "bgp-fault" ∷ end_text place.now.end ∷ decimal place.now.session ∷ bgp_fault_text fault ∷ codes "at" ∷ decimal at ∷ [])) }
+        (codes "bgp-fault" ∷ end_text place.now.end ∷ decimal place.now.session ∷ bgp_fault_text fault ∷ codes "at"
+        ∷ decimal at ∷ [])) }
 {
     push_decimal(out, u64::from(place.number))?;
     push_place(out, place, b"bgp-fault")?;

@@ -18,7 +18,8 @@ pub(crate) fn read_piece(
     place: &Place,
     out: &mut Vec<u8>,
 ) -> Result<bool, AllocError>
-    ensures { IfOk result (λ reached. (bytes : List ℕ) → StandsFor reader.old bytes → length bytes + length piece.now ≤ greatest_place
+    ensures { IfOk result (λ reached. (bytes : List ℕ) → StandsFor reader.old bytes
+        → length bytes + length piece.now ≤ greatest_place
         → IsRead place.now bytes piece.now out.old.items out.new.items reader.new reached) }
 {
     let mut rest = piece;

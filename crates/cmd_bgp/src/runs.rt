@@ -94,8 +94,10 @@ fn hear(
     said: &mut Said,
 ) -> Result<(), AllocError>
     requires few { said.old.faults < 4294967295 }
-    ensures heard { OnOk result ((bytes : List ℕ) → StandsFor reader.old bytes → length bytes + length piece.now ≤ greatest_place
-        → IsHeard place.now bytes piece.now said.old.text.items said.new.text.items reader.new said.old.faults said.new.faults) }
+    ensures heard { OnOk result ((bytes : List ℕ) → StandsFor reader.old bytes
+        → length bytes + length piece.now ≤ greatest_place
+        → IsHeard place.now bytes piece.now said.old.text.items said.new.text.items reader.new said.old.faults
+        said.new.faults) }
     ensures few { OnOk result (said.new.faults ≤ said.old.faults + 1) }
 {
     let reached = read_piece(reader, piece, place, &mut said.text)?;
@@ -114,7 +116,8 @@ fn renew(began: bool, reader: &mut BgpReader)
 
 /// How many bytes the end's live session delivered; 0 where there is none.
 fn delivered(world: &World, end: End) -> u64
-    ensures { (setup : Link) (events : List One) → WorldStands world.now setup events → result ≡ length (taken_by (live (side (run setup events) end).sessions)) }
+    ensures { (setup : Link) (events : List One) → WorldStands world.now setup events
+        → result ≡ length (taken_by (live (side (run setup events) end).sessions)) }
 {
     match world.live(end) {
         Some(endpoint) => endpoint.delivered(),
@@ -125,8 +128,10 @@ fn delivered(world: &World, end: End) -> u64
 /// A session of the end began, or its initial sequence number was used before.
 fn begin(world: &World, end: End, readers: &mut BothEnds<BgpReader>)
     requires steps { 0 < steps_taken world.now }
-    ensures { (setup : Link) (events : List One) (event : One) (text : List ℕ) (faults : ℕ) → WorldStands world.now setup (events ++ event ∷ [])
-        → turn_of event ≡ Turn.Begins end → Follows setup events readers.old text faults → Follows setup (events ++ event ∷ []) readers.new text faults }
+    ensures { (setup : Link) (events : List One) (event : One) (text : List ℕ) (faults : ℕ)
+        → WorldStands world.now setup (events ++ event ∷ [])
+        → turn_of event ≡ Turn.Begins end → Follows setup events readers.old text faults
+        → Follows setup (events ++ event ∷ []) readers.new text faults }
 {
     renew(is_done(world.outcome()), readers.at_mut(end));
 }
@@ -141,8 +146,10 @@ fn take(
 ) -> Result<(), AllocError>
     requires steps { 0 < steps_taken world.now }
     requires few { said.old.faults < 4294967295 }
-    ensures follows { OnOk result ((setup : Link) (events : List One) (event : One) → WorldStands world.now setup (events ++ event ∷ [])
-        → turn_of event ≡ Turn.Takes end → number ≡ suc (length events) → Follows setup events readers.old said.old.text.items said.old.faults
+    ensures follows { OnOk result ((setup : Link) (events : List One) (event : One)
+        → WorldStands world.now setup (events ++ event ∷ [])
+        → turn_of event ≡ Turn.Takes end → number ≡ suc (length events)
+        → Follows setup events readers.old said.old.text.items said.old.faults
         → Follows setup (events ++ event ∷ []) readers.new said.new.text.items said.new.faults) }
     ensures few { OnOk result (said.new.faults ≤ said.old.faults + 1) }
 {
@@ -167,7 +174,8 @@ fn follow(
 ) -> Result<(), AllocError>
     requires steps { 0 < steps_taken world.now }
     requires few { said.old.faults < 4294967295 }
-    ensures follows { OnOk result ((setup : Link) (events : List One) → WorldStands world.now setup (events ++ event.now ∷ [])
+    ensures follows { OnOk result ((setup : Link) (events : List One)
+        → WorldStands world.now setup (events ++ event.now ∷ [])
         → number ≡ suc (length events) → Follows setup events readers.old said.old.text.items said.old.faults
         → Follows setup (events ++ event.now ∷ []) readers.new said.new.text.items said.new.faults) }
     ensures few { OnOk result (said.new.faults ≤ said.old.faults + 1) }

@@ -32,10 +32,10 @@ pub enum Form {
 /// |---|---|---|
 /// | `Line` | exactly of lines: the first faulty one | the lines of all segments before it |
 /// | `Head`, `Record` | exactly of a pcap file: its first fault | the lines of all packets before it |
-/// | `TooLong` | only where over 268,435,456 bytes were given, and no header is faulty | the lines of all segments that were read, all within those bytes |
+/// | `TooLong` | only where over 268,435,456 bytes were given, and no header has a fault | as for `Read` |
 /// | `Read` | only where the source's count of faults rose | the lines of all segments that were read |
-/// | `Write` | only where the sink's count of faults rose | a front part of the line that failed, behind all before it |
-/// | `Memory` | for want of memory | the lines of all segments that were read, but in a pcap file perhaps not of the last one |
+/// | `Write` | only where the sink's count of faults rose | all lines before the failed one, and a front part of it |
+/// | `Memory` | out of memory | the lines of all segments read, but in a pcap file perhaps not of the last one |
 pub fn answer<I: Source, O: Sink>(
     alloc: Global,
     tables: Tables,

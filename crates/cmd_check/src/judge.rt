@@ -54,7 +54,8 @@ impl Judge {
         lines: &mut Vec<u8>,
     ) -> Result<(), AllocError>
         ensures gathers { (stored : List Stored) → HasHeard self.old stored →
-            Gathers self.old self.new stored (record { number = number; time = time; bytes = bytes.now }) lines.old.items lines.new.items result }
+            Gathers self.old self.new stored (record { number = number; time = time; bytes = bytes.now })
+            lines.old.items lines.new.items result }
         ensures least { steps.old ≤ steps.new }
         ensures most { steps.new ≤ steps.old + 1 }
     {

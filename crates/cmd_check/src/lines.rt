@@ -31,8 +31,10 @@ fn judge_line<L: Ledger, O: Sink>(
     out: &mut O,
 ) -> Result<(), Halt>
     requires { gathered.old.items ≡ [] }
-    ensures { (lines : List (List ℕ)) → number ≡ length lines + 1 → (stored_from 1 lines).fault ≡ None → HasHeard judge.old (segments_of lines) →
-        JudgesLine judge.old.checking.tables judge.new lines line.now gathered.new.items (O.side out.old) (O.side out.new) result }
+    ensures { (lines : List (List ℕ)) → number ≡ length lines + 1 → (stored_from 1 lines).fault ≡ None
+        → HasHeard judge.old (segments_of lines) →
+        JudgesLine judge.old.checking.tables judge.new lines line.now gathered.new.items (O.side out.old)
+        (O.side out.new) result }
 {
     match read_line(alloc, line) {
         Ok(Stored::Empty) => Ok(()),
@@ -64,11 +66,20 @@ fn check_all<L: Ledger, I: Source, O: Sink>(
     out: &mut O,
 ) -> Result<bool, Halt>
     requires reader { reader.old ≡
-        record { longest = 131200; most = 268435456; kept = []; taken = 0; lacks_newline = false; over = false; line = None } }
+        record {
+          longest = 131200;
+          most = 268435456;
+          kept = [];
+          taken = 0;
+          lacks_newline = false;
+          over = false;
+          line = None;
+        } }
     requires heard { HasHeard judge.old [] }
     requires gathered { gathered.old.items ≡ [] }
     ensures { (given : List ℕ) ×
-        Checks judge.old.checking.tables given (I.side input.old) (I.side input.new) (O.side out.old) (O.side out.new) result }
+        Checks judge.old.checking.tables given (I.side input.old) (I.side input.new) (O.side out.old) (O.side out.new)
+        result }
 {
     let mut number: u32 = 0;
     'lines: loop {
@@ -103,7 +114,8 @@ pub(crate) fn check_lines<L: Ledger, I: Source, O: Sink>(
     requires name { blank.name ≡ L.name }
     requires parts { blank.parts ≡ L.parts }
     requires part { 0 < blank.parts }
-    ensures { (given : List ℕ) × Checks tables given (I.side input.old) (I.side input.new) (O.side out.old) (O.side out.new) result }
+    ensures { (given : List ℕ) × Checks tables given (I.side input.old) (I.side input.new) (O.side out.old)
+        (O.side out.new) result }
 {
     let mut steps = Steps::<L>::new(blank);
     let mut reader = match LineReader::new(alloc, LONGEST, MOST_CAPTURE) {

@@ -24,7 +24,8 @@ fn judge_packet<L: Ledger>(
     lines: &mut Vec<u8>,
 ) -> Result<(), AllocError>
     requires { IsSome packets.now.packet }
-    ensures { (p : Packet) (shown : List Packet) → packets.now.packet ≡ Some p → HasHeard judge.old (map stored_packet shown) →
+    ensures { (p : Packet) (shown : List Packet) → packets.now.packet ≡ Some p
+        → HasHeard judge.old (map stored_packet shown) →
         JudgesPacket judge.old judge.new shown p lines.old.items lines.new.items result }
 {
     let datagram = packets.datagram();
@@ -45,7 +46,8 @@ fn next_packet<I: Source, O: Sink>(
     out: &mut O,
 ) -> Result<PacketStep, Failed>
     requires { packets.old.over ≡ false }
-    ensures { (given : List ℕ) × Moves packets.old packets.new (I.side input.old) (I.side input.new) given lines.old.items lines.new.items (O.side out.old) (O.side out.new) result }
+    ensures { (given : List ℕ) × Moves packets.old packets.new (I.side input.old) (I.side input.new) given
+        lines.old.items lines.new.items (O.side out.old) (O.side out.new) result }
 {
     if packets.next_kept() {
         return Ok(PacketStep::Packet);
@@ -72,7 +74,8 @@ fn check_all<L: Ledger, I: Source, O: Sink>(
     requires heard { HasHeard judge.old [] }
     requires lines { lines.old.items ≡ [] }
     ensures { (given : List ℕ) ×
-        Checks judge.old.checking.tables given (I.side input.old) (I.side input.new) (O.side out.old) (O.side out.new) result }
+        Checks judge.old.checking.tables given (I.side input.old) (I.side input.new) (O.side out.old) (O.side out.new)
+        result }
 {
     'packets: loop {
         match next_packet(packets, input, lines, out) {
@@ -103,7 +106,8 @@ pub(crate) fn check_packets<L: Ledger, I: Source, O: Sink>(
     requires name { blank.name ≡ L.name }
     requires parts { blank.parts ≡ L.parts }
     requires part { 0 < blank.parts }
-    ensures { (given : List ℕ) × Checks tables given (I.side input.old) (I.side input.new) (O.side out.old) (O.side out.new) result }
+    ensures { (given : List ℕ) × Checks tables given (I.side input.old) (I.side input.new) (O.side out.old)
+        (O.side out.new) result }
 {
     let mut steps = Steps::<L>::new(blank);
     let mut packets = match Packets::new(alloc) {

@@ -53,7 +53,8 @@ fn judge(tables: &Tables, pair: &Pair, lead: u64, lag: u64, from: u64, to: u64) 
 pub fn lint(tables: &Tables, pair: &Pair, lead: u64, lag: u64, from: u64, to: u64) -> LintAnswer
     ensures answer { result ≡ lint_of tables.now pair.now (record { lead = lead; lag = lag; from = from; to = to }) }
     ensures carries_through { (result ≡ answer.Aligned)
-        ↔ CarriesThrough (rows_at tables.now pair.now.local.address) (rows_at tables.now pair.now.remote.address) pair.now lead lag from to }
+        ↔ CarriesThrough (rows_at tables.now pair.now.local.address) (rows_at tables.now pair.now.remote.address)
+        pair.now lead lag from to }
 {
     judge(tables, pair, lead, lag, from, to)
 }

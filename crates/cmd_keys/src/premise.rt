@@ -16,5 +16,6 @@ ghost use Rattle.cmd_keys.specs.CarriesThrough.{CarriesThrough};
 pub fn aligned_carries_through()
     ensures { (tables : List Table) (pair : Pair) (lead lag low high : ℕ) →
         (lint_of tables pair (record { lead = lead; lag = lag; from = low; to = high }) ≡ answer.Aligned)
-        ↔ CarriesThrough (rows_at tables pair.local.address) (rows_at tables pair.remote.address) pair lead lag low high }
+        ↔ CarriesThrough (rows_at tables pair.local.address) (rows_at tables pair.remote.address) pair lead lag low
+        high }
 {}

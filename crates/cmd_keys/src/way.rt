@@ -104,7 +104,8 @@ impl<'a> Way<'a> {
     /// since rows with one id that hear the same peer accept at different times.
     fn is_accepted_throughout(&self, hearing: &[bool; ROW_LIMIT], row: &Row) -> bool
         requires { take (length self.now.others.now) hearing.now ≡ map (hears self.now.pair) self.now.others.now }
-        ensures { result ≡ list_any (accepts_throughout self.now.pair self.now.lead self.now.lag row.now) self.now.others.now }
+        ensures { result ≡ list_any (accepts_throughout self.now.pair self.now.lead self.now.lag row.now)
+            self.now.others.now }
     {
         for (i, other) in self.others.iter().enumerate() {
             if hearing[i] && self.is_outlasting(row, other) && is_keyed_for(row, other) {
@@ -125,7 +126,8 @@ impl<'a> Way<'a> {
         row: &Row,
     ) -> Option<LintAnswer>
         requires { take (length self.now.others.now) hearing.now ≡ map (hears self.now.pair) self.now.others.now }
-        ensures { result ≡ unmet_answer end number self.now.others.now self.now.pair self.now.lead self.now.lag row.now }
+        ensures { result ≡ unmet_answer end number self.now.others.now self.now.pair self.now.lead self.now.lag
+            row.now }
     {
         if !row.is_sending_for(&self.pair) || self.is_accepted_throughout(hearing, row) {
             None
@@ -141,7 +143,8 @@ impl<'a> Way<'a> {
         requires rows { length self.now.rows.now ≤ row_limit }
         requires others { length self.now.others.now ≤ row_limit }
         ensures { result ≡ option_map misaligned_answer
-            (first_unmet (unmet_reason self.now.others.now self.now.pair self.now.lead self.now.lag) end 1 self.now.rows.now) }
+            (first_unmet (unmet_reason self.now.others.now self.now.pair self.now.lead self.now.lag) end 1
+            self.now.rows.now) }
     {
         let hearing = self.hearing();
         for (i, row) in self.rows.iter().enumerate() {

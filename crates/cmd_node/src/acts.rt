@@ -51,7 +51,8 @@ fn told_again(resent: Resent) -> Told
 
 /// So many of the ready bytes are taken, or all.
 fn take(alloc: Global, end: &mut Endpoint, count: u16) -> Result<Told, AllocError>
-    ensures took { IfOk result (λ told. (s : EndState) (room : List ℕ) → Stands end.old s → Follows end.new room told (take_called count s)) }
+    ensures took { IfOk result (λ told. (s : EndState) (room : List ℕ) → Stands end.old s
+        → Follows end.new room told (take_called count s)) }
     ensures short { IfOk result (λ told. length_told told ≡ 0) }
     ensures pair { pair_at_end end.new ≡ pair_at_end end.old }
     ensures fits { (rows : List Row) → FitsEnd rows end.old → FitsEnd rows end.new }
@@ -77,7 +78,8 @@ pub(crate) fn act_on<L: Ledger>(
 ) -> Result<Told, AllocError>
     requires fits { FitsEnd table.now.rows end.old }
     requires room { 1500 ≤ length room.old }
-    ensures acted { IfOk result (λ told. (s : EndState) → Stands end.old s → HasActed table.now.rows (pair_at_end end.old) now s act.now end.new room.new told) }
+    ensures acted { IfOk result (λ told. (s : EndState) → Stands end.old s
+        → HasActed table.now.rows (pair_at_end end.old) now s act.now end.new room.new told) }
     ensures short { IfOk result (λ told. length_told told ≤ 1500) }
     ensures pair { pair_at_end end.new ≡ pair_at_end end.old }
     ensures fits { FitsEnd table.now.rows end.new }

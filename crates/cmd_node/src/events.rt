@@ -47,7 +47,8 @@ fn call<L: Ledger>(
     requires fits { FitsAll table.now.rows node.old }
     requires room { 1500 ≤ length room.old }
     ensures reached { IfOk result (λ told. (n : NodeState) → StandsNode table.now.rows node.old clock n
-        → Reaches table.now.rows node.new clock room.new told (called_at table.now.rows n pair.now act.now (held_end pair.now n.ends))) }
+        → Reaches table.now.rows node.new clock room.new told
+        (called_at table.now.rows n pair.now act.now (held_end pair.now n.ends))) }
     ensures short { IfOk result (λ told. length_told told ≤ 1500) }
 {
     match node.end_mut(pair) {
@@ -71,7 +72,9 @@ fn at_pair<L: Ledger>(
     requires room { 1500 ≤ length room.old }
     requires family { IsOneFamily pair.now.local.address pair.now.remote.address }
     ensures reached { IfOk result (λ told. (n : NodeState) → StandsNode table.now.rows node.old clock n
-        → Reaches table.now.rows node.new clock room.new told (on_pair most_ends table.now.rows n (record { pair = pair.now; act = act.now }) (held_end pair.now n.ends))) }
+        → Reaches table.now.rows node.new clock room.new told
+        (on_pair most_ends table.now.rows n (record { pair = pair.now; act = act.now })
+        (held_end pair.now n.ends))) }
     ensures short { IfOk result (λ told. length_told told ≤ 1500) }
 {
     match act {

@@ -3,7 +3,8 @@ ghost use Rattle.std.specs.Prelude.{◌≡◌};
 ghost use Rattle.text_lines.specs.Readings.{Tells, gives};
 ghost use Rattle.book_cmd_node.specs.declared.node.Act.TheVariants as acts;
 ghost use Rattle.book_cmd_link.specs.LinkEvents.{greatest_isn};
-ghost use Rattle.book_cmd_node.specs.NodeRuns.{act_alone, act_give, act_number, act_start, clock_of, node_inject_of, node_event_named, node_event_of, pair_in};
+ghost use Rattle.book_cmd_node.specs.NodeRuns.{act_alone, act_give, act_number, act_start, clock_of, node_inject_of};
+ghost use Rattle.book_cmd_node.specs.NodeRuns.{node_event_named, node_event_of, pair_in};
 ghost use Rattle.cmd_node.specs.Names.{name_text};
 
 use crate::name::Name;

@@ -35,7 +35,8 @@ fn push_datagram(out: &mut Vec<u8>, bytes: &[u8]) -> Result<(), AllocError>
 /// Puts the words of a segment that was made behind `out`; its bytes stand in front of `room`.
 fn push_sent(out: &mut Vec<u8>, made: &Made, room: &[u8]) -> Result<(), AllocError>
     requires { made.now.length ≤ length room.now }
-    ensures { OnOk result ((e : Emission) → TellsMade room.now made.now e → out.new.items ≡ out.old.items ++ spaced (node_sent_texts e)) }
+    ensures { OnOk result ((e : Emission) → TellsMade room.now made.now e
+        → out.new.items ≡ out.old.items ++ spaced (node_sent_texts e)) }
 {
     push_name(out, made)?;
     push_details(out, made)?;
@@ -46,7 +47,8 @@ fn push_sent(out: &mut Vec<u8>, made: &Made, room: &[u8]) -> Result<(), AllocErr
 /// in front of `room`.
 fn push_words(out: &mut Vec<u8>, told: &Told, room: &[u8]) -> Result<(), AllocError>
     requires { length_told told.now ≤ length room.now }
-    ensures { OnOk result ((o : NodeOutcome) → Tells room.now told.now o → out.new.items ≡ out.old.items ++ spaced (node_texts o)) }
+    ensures { OnOk result ((o : NodeOutcome) → Tells room.now told.now o
+        → out.new.items ≡ out.old.items ++ spaced (node_texts o)) }
 {
     match told {
         Told::Done => push_text(out, b"ok"),
@@ -73,7 +75,8 @@ pub(crate) fn push_told(
     room: &[u8],
 ) -> Result<(), AllocError>
     requires { length_told told.now ≤ length room.now }
-    ensures { OnOk result ((o : NodeOutcome) → Tells room.now told.now o → out.new.items ≡ out.old.items ++ numbered_text n (node_texts o)) }
+    ensures { OnOk result ((o : NodeOutcome) → Tells room.now told.now o
+        → out.new.items ≡ out.old.items ++ numbered_text n (node_texts o)) }
 {
     push_decimal(out, n)?;
     push_words(out, told, room)?;

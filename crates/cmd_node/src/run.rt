@@ -34,7 +34,8 @@ fn answer_all<L: Ledger>(
     requires empty { node.old ≡ record { most = most_ends; entries = [] } }
     requires room { 1500 ≤ length room.old }
     ensures text { IfOk result (λ out. out.items ≡ node_text table.now.rows script.now.events) }
-    ensures node { OnOk result (HoldsAs table.now.rows node.new (node_from most_ends table.now.rows no_ends script.now.events).ends) }
+    ensures node { OnOk result (HoldsAs table.now.rows node.new
+        (node_from most_ends table.now.rows no_ends script.now.events).ends) }
 {
     let mut out = Vec::new(alloc);
     let mut clock = 0;
@@ -60,7 +61,8 @@ fn run<L: Ledger>(
     requires script { IsScript script.now }
     requires empty { node.old ≡ record { most = most_ends; entries = [] } }
     ensures text { IfOk result (λ out. out.items ≡ node_text table.now.rows script.now.events) }
-    ensures node { OnOk result (HoldsAs table.now.rows node.new (node_from most_ends table.now.rows no_ends script.now.events).ends) }
+    ensures node { OnOk result (HoldsAs table.now.rows node.new
+        (node_from most_ends table.now.rows no_ends script.now.events).ends) }
 {
     let mut steps = Steps::<L>::new(blank);
     let mut room = Vec::new(alloc);
@@ -87,7 +89,8 @@ pub fn run_node(
     requires script { IsScript script.now }
     requires empty { node.old ≡ record { most = most_ends; entries = [] } }
     ensures text { IfOk result (λ text. text ≡ node_text table.now.rows script.now.events) }
-    ensures node { OnOk result (HoldsAs table.now.rows node.new (node_from most_ends table.now.rows no_ends script.now.events).ends) }
+    ensures node { OnOk result (HoldsAs table.now.rows node.new
+        (node_from most_ends table.now.rows no_ends script.now.events).ends) }
     ensures alone { (pair : OnePair) → Alone pair table.now.rows script.now.events }
 {
     each_is_alone();

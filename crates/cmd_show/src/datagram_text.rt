@@ -5,7 +5,8 @@ ghost use Rattle.book_segments.specs.Options.{plains, listed, options_of};
 ghost use Rattle.book_segments.specs.Segments.{reading};
 ghost use Rattle.tcp_options.specs.Views.{view_opt};
 ghost use Rattle.book_lines.specs.Texts.{socket_texts, spaced};
-ghost use Rattle.book_cmd_show.specs.DatagramTexts.{datagram_texts, family_text, number_texts, option_text, options_texts, rest_texts};
+ghost use Rattle.book_cmd_show.specs.DatagramTexts.{datagram_texts, family_text, number_texts, option_text};
+ghost use Rattle.book_cmd_show.specs.DatagramTexts.{options_texts, rest_texts};
 ghost use Rattle.book_cmd_show.specs.Show.{reading_texts};
 
 use ao_base::{push_decimal, push_hex};
@@ -61,7 +62,9 @@ fn push_others(out: &mut Vec<u8>, mut options: OptionIter<'_>) -> Result<(), All
 
 /// Family, sender and receiver.
 fn push_sockets(alloc: Global, out: &mut Vec<u8>, datagram: &Datagram<'_>) -> Result<(), AllocError>
-    ensures { OnOk result (out.new.items ≡ out.old.items ++ spaced (family_text datagram.now.source.address ∷ socket_texts datagram.now.source (socket_texts datagram.now.destination []))) }
+    ensures { OnOk result (out.new.items ≡ out.old.items ++ spaced
+        (family_text datagram.now.source.address ∷ socket_texts datagram.now.source
+        (socket_texts datagram.now.destination []))) }
 {
     let source = datagram.source();
     push_text(out, family(&source.address))?;

@@ -34,7 +34,8 @@ fn bytes_in(alloc: Global, mut line: Saying) -> Result<Bytes, TextFault>
 
 #[tactic(auto, unfolding(book_cmd_show::specs::Show::shown_line))]
 fn push_shown(alloc: Global, out: &mut Vec<u8>, number: u32, bytes: &[u8]) -> Result<(), AllocError>
-    ensures { OnOk result (out.new.items ≡ out.old.items ++ shown_line (record { number = number; value = bytes.now })) }
+    ensures { OnOk result (out.new.items ≡ out.old.items ++ shown_line
+        (record { number = number; value = bytes.now })) }
 {
     push_decimal(out, u64::from(number))?;
     push_reading(alloc, out, bytes)?;

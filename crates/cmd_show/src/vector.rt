@@ -7,7 +7,8 @@ ghost use Rattle.book_macs.specs.Hmac.{hmac};
 ghost use Rattle.ao_mac.specs.Macs.{HasAo};
 ghost use Rattle.text_lines.specs.Readings.{Tells, gives};
 ghost use Rattle.cmd_show.specs.Signed.{IsMadeVector};
-ghost use Rattle.book_cmd_show.specs.Vectors.{aes_vector, cmac_vector, kdf_vector, keyed_of, keyed_vector, making_in, segment_vector, vector_named, vector_of};
+ghost use Rattle.book_cmd_show.specs.Vectors.{aes_vector, cmac_vector, kdf_vector, keyed_of, keyed_vector};
+ghost use Rattle.book_cmd_show.specs.Vectors.{making_in, segment_vector, vector_named, vector_of};
 
 use crate::keys::{key_of, read_context};
 use crate::signed::{Making, SignedDatagram, mac_of, signed};

@@ -54,7 +54,8 @@ fn push_verdict(out: &mut Vec<u8>, vector: &Vector) -> Result<(), AllocError>
 
 #[tactic(auto, unfolding(book_cmd_show::specs::Verified::verdict_line))]
 fn push_line(out: &mut Vec<u8>, number: u32, vector: &Vector) -> Result<(), AllocError>
-    ensures { OnOk result (out.new.items ≡ out.old.items ++ verdict_line (record { number = number; value = vector.now })) }
+    ensures { OnOk result (out.new.items ≡ out.old.items ++ verdict_line
+        (record { number = number; value = vector.now })) }
 {
     push_decimal(out, u64::from(number))?;
     push_verdict(out, vector)?;
@@ -76,7 +77,8 @@ fn push_lines(
     lines: &mut SayingLines,
 ) -> Result<Totals, TextFault>
     requires { length lines.old ≤ most_lines }
-    ensures { Answers (sums_after result out.new.items) (sums_from (no_sums out.old.items) (said_by vector_of lines.old)) }
+    ensures { Answers (sums_after result out.new.items) (sums_from (no_sums out.old.items)
+        (said_by vector_of lines.old)) }
 {
     let mut totals = Totals {
         count: 0,

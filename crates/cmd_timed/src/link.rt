@@ -34,7 +34,8 @@ impl Link {
         requires end { end_at event.now ≡ Some end }
         requires event { CanHappen event.now }
         requires steps { steps_taken self.old.world < most_events }
-        requires few { (setup : Plan) (past : List OneEvent) → StandsFor self.old.world setup past → length past < most_events }
+        requires few { (setup : Plan) (past : List OneEvent) → StandsFor self.old.world setup past
+            → length past < most_events }
         ensures { OnOk result (Does (steps event.now) self.old self.new (Ok tt)) }
     {
         let old = self.world.front(end);

@@ -113,7 +113,8 @@ impl Watch {
     /// The end got from one front to another.
     fn advance(&mut self, reading: u64, transmission: Transmission, old: Front, new: Front)
         requires { reading ≤ greatest_time }
-        ensures { seen self.new ≡ watch_by reading transmission (Some (front_of old)) (Some (front_of new)) (seen self.old) }
+        ensures { seen self.new ≡ watch_by reading transmission (Some (front_of old)) (Some (front_of new))
+            (seen self.old) }
     {
         if old.una < new.una {
             self.acknowledge(reading, new);

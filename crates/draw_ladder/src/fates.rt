@@ -1,5 +1,6 @@
 //! What was seen of rungs: which segments came, and which came last.
-ghost use Rattle.std.specs.Prelude.{◌≡◌, ◌∷◌, ◌||◌, ◌==◌, ◌<◌, ◌+◌, max, Some, ℕ, List, [], OnOk, IfOk, false, drop, get_or, length};
+ghost use Rattle.std.specs.Prelude.{◌≡◌, ◌∷◌, ◌||◌, ◌==◌, ◌<◌, ◌+◌, max, Some, ℕ, List, [], OnOk, IfOk, false, drop};
+ghost use Rattle.std.specs.Prelude.{get_or, length};
 ghost use Rattle.book_base.specs.declared.end.End.{End as OneEnd};
 ghost use Rattle.book_draw.specs.declared.rung.Rung.{Rung as Step};
 ghost use Rattle.both_ends.specs.Values.{at};
@@ -35,7 +36,8 @@ fn make_room(marks: &mut Vec<bool>, number: u32) -> Result<(), AllocError>
 
 /// Sets the mark at the number.
 fn mark(marks: &mut Vec<bool>, number: u32) -> Result<(), AllocError>
-    ensures { OnOk result ((n : ℕ) → get_or marks.new.items n false ≡ ((n == number) || get_or marks.old.items n false)) }
+    ensures { OnOk result ((n : ℕ) → get_or marks.new.items n false
+        ≡ ((n == number) || get_or marks.old.items n false)) }
 {
     make_room(marks, number)?;
     marks[number as usize] = true;
@@ -104,7 +106,8 @@ impl Seen {
 
     /// Takes the number of the segment for the greatest of its end, where it is greater.
     fn raise(&mut self, delivery: Delivery)
-        ensures newest { (end : OneEnd) → at end self.new.newest ≡ max (number_come end (Some delivery)) (at end self.old.newest) }
+        ensures newest { (end : OneEnd) → at end self.new.newest
+            ≡ max (number_come end (Some delivery)) (at end self.old.newest) }
         ensures marks { self.new.marks ≡ self.old.marks }
     {
         let newest = self.newest.at_mut(delivery.at);

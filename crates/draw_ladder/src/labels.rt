@@ -34,7 +34,8 @@ fn push_length(out: &mut Vec<u8>, length: u64) -> Result<(), AllocError>
 /// The flags of a segment, and its two keys.
 fn push_keys(out: &mut Vec<u8>, sketch: &Sketch) -> Result<(), AllocError>
     ensures { OnOk result (out.new.items ≡ out.old.items
-        ++ spaced (flags_text sketch.now.flags ∷ codes "key" ∷ decimal sketch.now.key_id ∷ codes "asks" ∷ decimal sketch.now.rnext_key_id ∷ [])) }
+        ++ spaced (flags_text sketch.now.flags ∷ codes "key" ∷ decimal sketch.now.key_id ∷ codes "asks"
+        ∷ decimal sketch.now.rnext_key_id ∷ [])) }
 {
     push_text(out, flags_word(sketch.flags))?;
     push_field(out, b"key", u64::from(sketch.key_id))?;
@@ -63,7 +64,8 @@ fn push_if(out: &mut Vec<u8>, holds: bool, word: &[u8]) -> Result<(), AllocError
 /// The number of a segment, whether it came before, and whether one that was made later did.
 fn push_segment(out: &mut Vec<u8>, end: End, seen: &Seen, name: u32) -> Result<(), AllocError>
     ensures { OnOk result ((earlier : List Step) → Saw seen.now earlier → out.new.items ≡ out.old.items
-        ++ (number_label name ++ (word_if (has_come name earlier) (codes " again") ++ word_if (nat_lt name (newest_at end earlier)) (codes " late")))) }
+        ++ (number_label name ++ (word_if (has_come name earlier) (codes " again")
+        ++ word_if (nat_lt name (newest_at end earlier)) (codes " late")))) }
 {
     push_name(out, name)?;
     push_if(out, seen.has_come(name), b" again")?;
@@ -84,7 +86,8 @@ pub fn push_arrival(
     seen: &Seen,
     what: Brought,
 ) -> Result<(), AllocError>
-    ensures { OnOk result ((earlier : List Step) → Saw seen.now earlier → out.new.items ≡ out.old.items ++ arrival_label end earlier what) }
+    ensures { OnOk result ((earlier : List Step) → Saw seen.now earlier
+        → out.new.items ≡ out.old.items ++ arrival_label end earlier what) }
 {
     match what {
         Brought::Segment(name) => push_segment(out, end, seen, name),

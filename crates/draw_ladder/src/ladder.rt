@@ -1,7 +1,10 @@
 //! The text of a ladder.
 ghost use Rattle.std.specs.Prelude.{◌≡◌, ◌<◌, ◌+◌, ◌++◌, List, [], IfOk, OnOk, drop, length};
 ghost use Rattle.book_draw.specs.declared.rung.Rung.{Rung as Step};
-ghost use Rattle.book_draw.specs.Ladders.{arrival_label, arriving_pen, first_rung, is_clock_of_b, is_in_line, is_one_line, is_one_line_next, ladder_head, ladder_text, made_pen, meets, other_margin, rung_comes, rung_end, rung_line, rung_margin, rung_text, rung_way, rungs_text, sketch_label, way_from, way_to};
+ghost use Rattle.book_draw.specs.Ladders.{arrival_label, arriving_pen, first_rung, is_clock_of_b, is_in_line};
+ghost use Rattle.book_draw.specs.Ladders.{is_one_line, is_one_line_next, ladder_head, ladder_text, made_pen, meets};
+ghost use Rattle.book_draw.specs.Ladders.{other_margin, rung_comes, rung_end, rung_line, rung_margin, rung_text};
+ghost use Rattle.book_draw.specs.Ladders.{rung_way, rungs_text, sketch_label, way_from, way_to};
 ghost use Rattle.draw_ladder.specs.Sights.{Saw};
 
 use crate::fates::{Seen, delivery_of};
@@ -110,7 +113,8 @@ fn push_made_way(
     end: End,
     sketch: &Sketch,
 ) -> Result<(), AllocError>
-    ensures { OnOk result (out.new.items ≡ out.old.items ++ way_from end (made_pen end comes at_once) (sketch_label sketch.now)) }
+    ensures { OnOk result (out.new.items ≡ out.old.items ++ way_from end (made_pen end comes at_once)
+        (sketch_label sketch.now)) }
 {
     let mut label = Vec::new(*out.allocator());
     push_sketch(&mut label, sketch)?;
@@ -140,7 +144,8 @@ fn push_way(
     seen: &Seen,
     rung: &Rung,
 ) -> Result<(), AllocError>
-    ensures { OnOk result ((earlier : List Step) → Saw seen.now earlier → out.new.items ≡ out.old.items ++ rung_way comes at_once earlier rung.now) }
+    ensures { OnOk result ((earlier : List Step) → Saw seen.now earlier
+        → out.new.items ≡ out.old.items ++ rung_way comes at_once earlier rung.now) }
 {
     match rung {
         Rung::Made(end, sketch, _) => push_made_way(out, comes, at_once, *end, sketch),
@@ -228,7 +233,8 @@ fn push_rungs(
     all: &Seen,
     rungs: &[Rung],
 ) -> Result<(), AllocError>
-    ensures { OnOk result ((rs : List Step) → Saw all.now rs → out.new.items ≡ out.old.items ++ rungs_text rs [] rungs.now) }
+    ensures { OnOk result ((rs : List Step) → Saw all.now rs → out.new.items
+        ≡ out.old.items ++ rungs_text rs [] rungs.now) }
 {
     let mut seen = Seen::new(alloc);
     for (index, rung) in rungs.iter().enumerate() {

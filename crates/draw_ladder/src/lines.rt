@@ -1,7 +1,8 @@
 //! The lines of a ladder.
 ghost use Rattle.std.specs.Prelude.{◌≡◌, ◌++◌, ◌∷◌, ◌-◌, [], OnOk, codes, length, replicate};
 ghost use Rattle.book_base.specs.declared.end.End.TheVariants.{A};
-ghost use Rattle.book_draw.specs.Ladders.{arriving_pen, arrowhead, blank_way, ladder_line, leftward, line_at, made_pen, rightward, way_from, way_to};
+ghost use Rattle.book_draw.specs.Ladders.{arriving_pen, arrowhead, blank_way, ladder_line, leftward, line_at};
+ghost use Rattle.book_draw.specs.Ladders.{made_pen, rightward, way_from, way_to};
 ghost use Rattle.draw_ladder.specs.Pens.{pen_of};
 
 use book_base::End;
@@ -35,7 +36,8 @@ pub(crate) fn push_blank_way(out: &mut Vec<u8>) -> Result<(), AllocError>
 
 /// The left margin.
 fn push_left(out: &mut Vec<u8>, left: &[u8]) -> Result<(), AllocError>
-    ensures { OnOk result (out.new.items ≡ out.old.items ++ (replicate (27 - length left.now) 32 ++ (left.now ++ codes " |"))) }
+    ensures { OnOk result
+        (out.new.items ≡ out.old.items ++ (replicate (27 - length left.now) 32 ++ (left.now ++ codes " |"))) }
 {
     push_times(out, b' ', 27_usize.saturating_sub(left.len()))?;
     out.extend_from_slice(left)?;
@@ -197,7 +199,8 @@ pub fn push_arrow(
     other: &[u8],
 ) -> Result<(), AllocError>
     ensures { OnOk result (out.new.items ≡ out.old.items
-        ++ line_at at own.now (way_to at (record { lead = stroke; stroke = stroke; tip = arrowhead at }) label.now) other.now) }
+        ++ line_at at own.now (way_to at (record { lead = stroke; stroke = stroke; tip = arrowhead at }) label.now)
+        other.now) }
 {
     let mut way = Vec::new(*out.allocator());
     let pen = Pen {

@@ -2,7 +2,8 @@
 ghost use Rattle.std.specs.Prelude.{◌≡◌, ◌++◌, ◌∷◌, OnOk, decimal};
 ghost use Rattle.book_lines.specs.Texts.{spaced};
 ghost use Rattle.book_draw.specs.Ladders.{answer_margin};
-ghost use Rattle.book_draw.specs.Margins.{call_margin, clock_margin, deed_texts, fate_word, making_word, phase_margin, reply_texts};
+ghost use Rattle.book_draw.specs.Margins.{call_margin, clock_margin, deed_texts, fate_word, making_word};
+ghost use Rattle.book_draw.specs.Margins.{phase_margin, reply_texts};
 ghost use Rattle.book_link.specs.Reports.{end_mark};
 
 use book_draw::{Deed, Reply};

@@ -1,6 +1,7 @@
 //! The lines of bars.
 ghost use Rattle.std.specs.Prelude.{◌≡◌, ◌++◌, OnOk, flat_map, option_map};
-ghost use Rattle.book_draw_plan.specs.Bars.{bar_byte, bar_bytes, bar_label, bar_text, duty_id, duty_text, duty_words, filling_byte, drawn_bar};
+ghost use Rattle.book_draw_plan.specs.Bars.{bar_byte, bar_bytes, bar_label, bar_text, duty_id, duty_text};
+ghost use Rattle.book_draw_plan.specs.Bars.{duty_words, filling_byte, drawn_bar};
 ghost use Rattle.book_draw_plan.specs.Slices.{slices_of};
 ghost use Rattle.draw_plan.specs.Drawn.{shown_of};
 
@@ -128,7 +129,8 @@ fn push_bar(
     bar: Bar,
 ) -> Result<(), AllocError>
     requires { slices.now ≡ slices_of plan.now.from plan.now.to }
-    ensures { OnOk result (out.new.items ≡ out.old.items ++ bar_text ends.now.tables.a.now ends.now.tables.b.now ends.now.pair plan.now bar) }
+    ensures { OnOk result (out.new.items ≡ out.old.items ++ bar_text ends.now.tables.a.now ends.now.tables.b.now
+        ends.now.pair plan.now bar) }
 {
     push_shown(out, slices, ends.shown(&plan_time(plan), bar))
 }
@@ -142,7 +144,8 @@ pub(crate) fn push_bar_lines(
     bars: &[Bar],
 ) -> Result<(), AllocError>
     requires { slices.now ≡ slices_of plan.now.from plan.now.to }
-    ensures { OnOk result (out.new.items ≡ out.old.items ++ flat_map (bar_text ends.now.tables.a.now ends.now.tables.b.now ends.now.pair plan.now) bars.now) }
+    ensures { OnOk result (out.new.items ≡ out.old.items ++ flat_map
+        (bar_text ends.now.tables.a.now ends.now.tables.b.now ends.now.pair plan.now) bars.now) }
 {
     for bar in bars {
         push_bar(out, ends, plan, slices, *bar)?;

@@ -1,7 +1,9 @@
 //! The bars of a connection, in order.
 ghost use Rattle.std.specs.Prelude.{◌≡◌, ◌++◌, ◌≤◌, IfOk, OnOk, length};
 ghost use Rattle.std.specs.List.{list_any};
-ghost use Rattle.book_draw_plan.specs.BarOrders.{accept_bars, accepts_alone, accepts_under, all_sending_bars, bar_if, bars_of, bars_of_way, is_doing_in, plan_time, sending_bars, sends_under};
+ghost use Rattle.book_draw_plan.specs.BarOrders.{accept_bars, accepts_alone, accepts_under, all_sending_bars};
+ghost use Rattle.book_draw_plan.specs.BarOrders.{bar_if, bars_of, bars_of_way, is_doing_in, plan_time, sending_bars};
+ghost use Rattle.book_draw_plan.specs.BarOrders.sends_under;
 ghost use Rattle.book_keys.specs.Rows.{row_limit};
 ghost use Rattle.book_scope_plan.specs.CalendarTexts.{side_of};
 ghost use Rattle.book_draw_plan.specs.declared.duty.Duty.TheVariants.{Accepts as accepts};
@@ -88,7 +90,8 @@ fn push_bar_if(bars: &mut Vec<Bar>, holds: bool, end: End, number: u8) -> Result
 /// The bars of the rows of the other end that accept under the id.
 fn push_met(bars: &mut Vec<Bar>, way: &OneWay, id: u8) -> Result<(), AllocError>
     requires { length way.now.others.now ≤ row_limit }
-    ensures { OnOk result (bars.new.items ≡ bars.old.items ++ accept_bars (accepts_under way.now.facing way.now.time id) (side_of way.now.sender b_end a_end) 1 way.now.others.now) }
+    ensures { OnOk result (bars.new.items ≡ bars.old.items ++ accept_bars
+        (accepts_under way.now.facing way.now.time id) (side_of way.now.sender b_end a_end) 1 way.now.others.now) }
 {
     let end = way.accepter();
     for (i, row) in way.others.iter().enumerate() {
@@ -101,7 +104,9 @@ fn push_met(bars: &mut Vec<Bar>, way: &OneWay, id: u8) -> Result<(), AllocError>
 /// The bars of the rows of the other end that accept where none of the sender's rows sends.
 fn push_alone(bars: &mut Vec<Bar>, way: &OneWay, senders: &[Row]) -> Result<(), AllocError>
     requires { length way.now.others.now ≤ row_limit }
-    ensures { OnOk result (bars.new.items ≡ bars.old.items ++ accept_bars (accepts_alone way.now.facing way.now.pair way.now.time senders.now) (side_of way.now.sender b_end a_end) 1 way.now.others.now) }
+    ensures { OnOk result (bars.new.items ≡ bars.old.items ++ accept_bars
+        (accepts_alone way.now.facing way.now.pair way.now.time senders.now) (side_of way.now.sender b_end a_end) 1
+        way.now.others.now) }
 {
     let end = way.accepter();
     for (i, row) in way.others.iter().enumerate() {

@@ -1,6 +1,7 @@
 //! The bars of a connection.
 ghost use Rattle.std.specs.Prelude.{◌≡◌, ◌++◌, OnOk, codes, decimal};
-ghost use Rattle.book_draw_plan.specs.Bars.{bar_line, both_bars, scale_line, scale_words, summary_line, summary_words, wrong_bytes, wrong_text};
+ghost use Rattle.book_draw_plan.specs.Bars.{bar_line, both_bars, scale_line, scale_words, summary_line};
+ghost use Rattle.book_draw_plan.specs.Bars.{summary_words, wrong_bytes, wrong_text};
 ghost use Rattle.book_draw_plan.specs.Slices.{slices_of};
 
 use crate::bars::push_bar_lines;
@@ -75,7 +76,9 @@ fn push_wrong(
     findings: &[Finding],
     slices: &[Slice],
 ) -> Result<(), AllocError>
-    ensures { OnOk result (out.new.items ≡ out.old.items ++ bar_line (wrong_bytes ends.now.tables.a.now ends.now.tables.b.now ends.now.pair findings.now slices.now) (codes "wrong")) }
+    ensures { OnOk result (out.new.items ≡ out.old.items ++ bar_line
+        (wrong_bytes ends.now.tables.a.now ends.now.tables.b.now ends.now.pair findings.now slices.now)
+        (codes "wrong")) }
 {
     out.extend_from_slice(b"  |")?;
     push_wrong_bytes(out, ends, findings, slices)?;
@@ -94,7 +97,8 @@ fn push_wrong_if(
     slices: &[Slice],
 ) -> Result<(), AllocError>
     requires { slices.now ≡ slices_of plan.now.from plan.now.to }
-    ensures { OnOk result (out.new.items ≡ out.old.items ++ wrong_text ends.now.tables.a.now ends.now.tables.b.now ends.now.pair plan.now findings.now) }
+    ensures { OnOk result (out.new.items ≡ out.old.items ++ wrong_text ends.now.tables.a.now ends.now.tables.b.now
+        ends.now.pair plan.now findings.now) }
 {
     match findings {
         [] => Ok(()),
@@ -114,7 +118,8 @@ pub fn push_bars(
     plan: &Plan,
     findings: &[Finding],
 ) -> Result<(), AllocError>
-    ensures { OnOk result (out.new.items ≡ out.old.items ++ both_bars ends.now.tables.a.now ends.now.tables.b.now ends.now.pair plan.now findings.now) }
+    ensures { OnOk result (out.new.items ≡ out.old.items ++ both_bars ends.now.tables.a.now ends.now.tables.b.now
+        ends.now.pair plan.now findings.now) }
 {
     let slices = slices_of(alloc, plan.from, plan.to)?;
     let bars = bars_of(alloc, ends.tables.a, ends.tables.b, &ends.pair, plan)?;

@@ -24,7 +24,8 @@ pub struct ShownBar<'a> {
 impl<'a> Connected<'a> {
     /// A bar of this connection with what is drawn of it over the time; `None` where no row has its number.
     pub fn shown(&self, time: &Slice, bar: Bar) -> Option<ShownBar<'a>>
-        ensures { option_map shown_of result ≡ shown_bar self.now.tables.a.now self.now.tables.b.now self.now.pair time.now bar }
+        ensures { option_map shown_of result ≡ shown_bar self.now.tables.a.now self.now.tables.b.now self.now.pair
+            time.now bar }
     {
         let table = self.table(bar.end);
         match row_numbered(table, bar.number) {

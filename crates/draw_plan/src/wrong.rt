@@ -1,6 +1,7 @@
 //! The slices in which something is wrong.
 ghost use Rattle.std.specs.Prelude.{◌≡◌, ◌++◌, OnOk, option_map};
-ghost use Rattle.book_draw_plan.specs.Bars.{is_marked, is_seen, may_send_in, numbered_sends, pair_at, slice_mark, wrong_byte, wrong_bytes};
+ghost use Rattle.book_draw_plan.specs.Bars.{is_marked, is_seen, may_send_in, numbered_sends, pair_at, slice_mark};
+ghost use Rattle.book_draw_plan.specs.Bars.{wrong_byte, wrong_bytes};
 ghost use Rattle.book_scope_plan.specs.CalendarTexts.{side_of};
 
 use crate::fillings::{is_filled, row_filling};
@@ -47,7 +48,8 @@ impl<'a> Connected<'a> {
 
     /// Whether the row of this end and number may send at some second of the slice.
     fn is_sending(&self, slice: &Slice, end: End, number: u8) -> bool
-        ensures { result ≡ numbered_sends (side_of end self.now.tables.a.now self.now.tables.b.now).rows (pair_at end self.now.pair) slice.now number }
+        ensures { result ≡ numbered_sends (side_of end self.now.tables.a.now self.now.tables.b.now).rows
+            (pair_at end self.now.pair) slice.now number }
     {
         let pair = self.pair_at(end);
         may_send_in(&pair, slice, row_numbered(self.table(end), number))
@@ -86,7 +88,8 @@ fn push_slice_mark(
     findings: &[Finding],
     slice: &Slice,
 ) -> Result<(), AllocError>
-    ensures { OnOk result (out.new.items ≡ out.old.items ++ slice_mark ends.now.tables.a.now ends.now.tables.b.now ends.now.pair findings.now slice.now) }
+    ensures { OnOk result (out.new.items ≡ out.old.items ++ slice_mark ends.now.tables.a.now ends.now.tables.b.now
+        ends.now.pair findings.now slice.now) }
 {
     out.push(wrong_byte(ends.is_marked(slice, findings)))?;
     Ok(())
@@ -99,7 +102,8 @@ pub(crate) fn push_wrong_bytes(
     findings: &[Finding],
     slices: &[Slice],
 ) -> Result<(), AllocError>
-    ensures { OnOk result (out.new.items ≡ out.old.items ++ wrong_bytes ends.now.tables.a.now ends.now.tables.b.now ends.now.pair findings.now slices.now) }
+    ensures { OnOk result (out.new.items ≡ out.old.items ++ wrong_bytes ends.now.tables.a.now ends.now.tables.b.now
+        ends.now.pair findings.now slices.now) }
 {
     for slice in slices {
         push_slice_mark(out, ends, findings, slice)?;

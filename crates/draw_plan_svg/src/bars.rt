@@ -1,7 +1,8 @@
 //! A bar with its words and its title.
 ghost use Rattle.std.specs.Prelude.{◌≡◌, ◌++◌, IfOk, OnOk, codes, option_map};
 ghost use Rattle.toml.specs.View.{table_view};
-ghost use Rattle.page_draw_plan_svg.specs.PlanPictures.{bar_svg, bar_title, bar_words, duty_class, edge_tag, edges_svg, fill_attribute, line_words, shown_svg, span_bar};
+ghost use Rattle.page_draw_plan_svg.specs.PlanPictures.{bar_svg, bar_title, bar_words, duty_class, edge_tag};
+ghost use Rattle.page_draw_plan_svg.specs.PlanPictures.{edges_svg, fill_attribute, line_words, shown_svg, span_bar};
 ghost use Rattle.book_draw_plan.specs.Bars.{duty_id};
 ghost use Rattle.page_draw_plan_svg.specs.Spans.{bar_span};
 ghost use Rattle.book_scope_plan.specs.FindingTexts.{text_if};
@@ -58,7 +59,8 @@ fn push_left_if(
     height: u64,
     attributes: &[u8],
 ) -> Result<(), AllocError>
-    ensures { OnOk result (out.new.items ≡ out.old.items ++ text_if goes_on (edge_tag (codes "<path d=\"M20 ") (codes "l-9 6 9 6z\"") height attributes.now)) }
+    ensures { OnOk result (out.new.items ≡ out.old.items ++ text_if goes_on
+        (edge_tag (codes "<path d=\"M20 ") (codes "l-9 6 9 6z\"") height attributes.now)) }
 {
     if goes_on {
         push_edge(out, b"<path d=\"M20 ", b"l-9 6 9 6z\"", height, attributes)
@@ -74,7 +76,8 @@ fn push_right_if(
     height: u64,
     attributes: &[u8],
 ) -> Result<(), AllocError>
-    ensures { OnOk result (out.new.items ≡ out.old.items ++ text_if goes_on (edge_tag (codes "<path d=\"M780 ") (codes "l9 6-9 6z\"") height attributes.now)) }
+    ensures { OnOk result (out.new.items ≡ out.old.items ++ text_if goes_on
+        (edge_tag (codes "<path d=\"M780 ") (codes "l9 6-9 6z\"") height attributes.now)) }
 {
     if goes_on {
         push_edge(out, b"<path d=\"M780 ", b"l9 6-9 6z\"", height, attributes)
@@ -185,7 +188,8 @@ fn push_shown(
     line: u32,
     bar: &ShownBar,
 ) -> Result<(), AllocError>
-    ensures { OnOk result (out.new.items ≡ out.old.items ++ shown_svg (table_view document.now) line (shown_of bar.now)) }
+    ensures { OnOk result (out.new.items ≡ out.old.items ++ shown_svg (table_view document.now) line
+        (shown_of bar.now)) }
 {
     let title = bar_title(*out.allocator(), document, bar)?;
     let drawing = bar_drawing(*out.allocator(), document, line, bar)?;
@@ -205,7 +209,8 @@ pub(crate) fn push_bar(
     line: u32,
     bar: Option<ShownBar>,
 ) -> Result<(), AllocError>
-    ensures { OnOk result (out.new.items ≡ out.old.items ++ bar_svg (table_view document.now) line (option_map shown_of bar.entry)) }
+    ensures { OnOk result (out.new.items ≡ out.old.items ++ bar_svg (table_view document.now) line
+        (option_map shown_of bar.entry)) }
 {
     match bar {
         None => Ok(()),

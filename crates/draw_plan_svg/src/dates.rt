@@ -1,6 +1,7 @@
 //! At which times a scale has dates.
 ghost use Rattle.std.specs.Prelude.{◌≡◌, ◌<◌, ◌≤◌, length};
-ghost use Rattle.page_draw_plan_svg.specs.Dates.{date_length, has_date, is_dated, is_first_day, is_half_year, is_new_year, is_tenth_day, unit_for, unit_step};
+ghost use Rattle.page_draw_plan_svg.specs.Dates.{date_length, has_date, is_dated, is_first_day, is_half_year};
+ghost use Rattle.page_draw_plan_svg.specs.Dates.{is_new_year, is_tenth_day, unit_for, unit_step};
 
 use page_draw_plan_svg::DateUnit;
 

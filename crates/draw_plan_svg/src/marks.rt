@@ -63,7 +63,8 @@ fn push_marks(
     ends: &Connected,
     findings: &[Finding],
 ) -> Result<(), AllocError>
-    ensures { OnOk result (out.new.items ≡ out.old.items ++ flat_map (finding_svg line time.now (judged_of ends.now findings.now)) findings.now) }
+    ensures { OnOk result (out.new.items ≡ out.old.items ++ flat_map
+        (finding_svg line time.now (judged_of ends.now findings.now)) findings.now) }
 {
     for finding in findings {
         push_span_mark(out, line, time, finding_span(ends, time, *finding))?;

@@ -47,7 +47,8 @@ fn push_bars(
 ) -> Result<u32, AllocError>
     requires room { line ≤ 4100000000 }
     requires few { length bars.now ≤ 8448 }
-    ensures text { OnOk result (out.new.items ≡ out.old.items ++ bars_svg (table_view paper.now.document.now) (plan_time paper.now.plan) ends.now line bars.now) }
+    ensures text { OnOk result (out.new.items ≡ out.old.items
+        ++ bars_svg (table_view paper.now.document.now) (plan_time paper.now.plan) ends.now line bars.now) }
     ensures next { IfOk result (λ next. next ≡ line + length bars.now) }
 {
     let time = plan_time(&paper.plan);
@@ -111,7 +112,8 @@ fn push_missing(
     address: &Address,
 ) -> Result<u32, AllocError>
     requires { line ≤ 4200000000 }
-    ensures drawn { IfOk result (λ next. Draws (table_view paper.now.document.now) paper.now.plan (missing_lines (option_map (λ t. t.now) node.entry) address.now) out.old.items line out.new.items next) }
+    ensures drawn { IfOk result (λ next. Draws (table_view paper.now.document.now) paper.now.plan
+        (missing_lines (option_map (λ t. t.now) node.entry) address.now) out.old.items line out.new.items next) }
     ensures few { IfOk result (λ next. next ≤ line + 1) }
 {
     match node {
@@ -169,7 +171,8 @@ pub fn push_panel(
 ) -> Result<u32, AllocError>
     requires { line ≤ 4000000000 }
     ensures drawn { IfOk result (λ next. Draws (table_view paper.now.document.now) paper.now.plan
-        (named panel.now.pair ∷ planned_lines (option_map (λ t. t.now) panel.now.a) (option_map (λ t. t.now) panel.now.b)
+        (named panel.now.pair ∷ planned_lines (option_map (λ t. t.now) panel.now.a)
+        (option_map (λ t. t.now) panel.now.b)
         paper.now.plan panel.now.pair panel.now.findings.now)
         out.old.items line out.new.items next) }
     ensures few { IfOk result (λ next. next ≤ line + 8451) }

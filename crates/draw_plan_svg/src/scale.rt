@@ -1,6 +1,7 @@
 //! The time that is drawn, and its dates.
 ghost use Rattle.std.specs.Prelude.{◌≡◌, ◌≤◌, ◌++◌, OnOk, length};
-ghost use Rattle.page_draw_plan_svg.specs.PlanPictures.{date_svg, dated_svg, dates_svg, scale_svg, step_before, step_count, tick_svg, time_svg};
+ghost use Rattle.page_draw_plan_svg.specs.PlanPictures.{date_svg, dated_svg, dates_svg, scale_svg, step_before};
+ghost use Rattle.page_draw_plan_svg.specs.PlanPictures.{step_count, tick_svg, time_svg};
 
 use crate::dates::{date_length, is_dated, unit_for, unit_step};
 use crate::places::{bars_height, push_line_words};

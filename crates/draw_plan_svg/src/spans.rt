@@ -1,6 +1,7 @@
 //! Where a time stands in the picture, and which seconds a bar shows.
 ghost use Rattle.std.specs.Prelude.{◌≡◌, ◌≤◌, option_map};
-ghost use Rattle.page_draw_plan_svg.specs.Spans.{bar_span, common_span, does_for, duty_lifetime, finding_span, sending_span, span_width, time_column};
+ghost use Rattle.page_draw_plan_svg.specs.Spans.{bar_span, common_span, does_for, duty_lifetime, finding_span};
+ghost use Rattle.page_draw_plan_svg.specs.Spans.{sending_span, span_width, time_column};
 ghost use Rattle.book_draw_plan.specs.Bars.{pair_at};
 ghost use Rattle.book_scope_plan.specs.CalendarTexts.{row_numbered, side_of};
 
@@ -98,7 +99,8 @@ fn sending_span(pair: &Pair, time: &Slice, row: Option<&Row>) -> Option<Slice>
 
 /// The seconds of a time in which the row of this end and number may send.
 fn numbered_span(ends: &Connected, time: &Slice, end: End, number: u8) -> Option<Slice>
-    ensures { result ≡ sending_span (pair_at end ends.now.pair) time.now (row_numbered (side_of end ends.now.tables.a.now ends.now.tables.b.now).rows number) }
+    ensures { result ≡ sending_span (pair_at end ends.now.pair) time.now
+        (row_numbered (side_of end ends.now.tables.a.now ends.now.tables.b.now).rows number) }
 {
     let row = row_numbered(ends.table(end), number);
     sending_span(&ends.pair_at(end), time, row)

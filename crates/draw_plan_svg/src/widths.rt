@@ -60,7 +60,8 @@ pub fn picture_width(
     document: &toml::Table,
     tables: &Tables,
 ) -> Result<u64, AllocError>
-    ensures { IfOk result (λ width. width ≡ picture_width (record { document = table_view document.now; tables = tables.now })) }
+    ensures { IfOk result
+        (λ width. width ≡ picture_width (record { document = table_view document.now; tables = tables.now })) }
 {
     let longest = longest_name(alloc, document, tables)?;
     Ok((200 + 8 * longest.min(65_536)).max(800))

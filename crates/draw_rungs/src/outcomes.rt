@@ -2,7 +2,8 @@
 ghost use Rattle.std.specs.Prelude.{◌≡◌};
 ghost use Rattle.book_link.specs.Outcomes as book;
 ghost use Rattle.book_link.specs.Worlds.{Made as BookMade};
-ghost use Rattle.book_draw.specs.Rungs.{coming_rung, making_rung, phase_place, reply_of, rung_at, rung_of, same_phase, sketch_of, turned};
+ghost use Rattle.book_draw.specs.Rungs.{coming_rung, making_rung, phase_place, reply_of, rung_at, rung_of};
+ghost use Rattle.book_draw.specs.Rungs.{same_phase, sketch_of, turned};
 ghost use Rattle.link_report.specs.Outcomes.{Shows, TellsMade};
 
 use book_base::End;

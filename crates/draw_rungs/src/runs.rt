@@ -20,7 +20,8 @@ use std::alloc::{AllocError, Global};
 
 /// The phase of the end's live session; none exactly where it has none.
 fn phase_at(world: &World, end: End) -> Option<Phase>
-    ensures { (setup : Link) (events : List Happening) → StandsFor world.now setup events → result ≡ phase_at (run setup events) end }
+    ensures { (setup : Link) (events : List Happening) → StandsFor world.now setup events
+        → result ≡ phase_at (run setup events) end }
 {
     match world.live(end) {
         Some(endpoint) => Some(endpoint.phase()),

@@ -1,6 +1,10 @@
 //! The elements of a picture: each segment in its row.
 ghost use Rattle.std.specs.Prelude.{◌≡◌, ◌++◌, IfOk, OnOk, codes};
-ghost use Rattle.page_draw_session_svg.specs.SessionPictures.{rung_arrow_svg, outcome_dashes, rung_drawing_svg, rung_svg, upright_column, rung_label_column, rung_label_height, rung_label_svg, rung_margin_column, rung_margin_height, rung_margin_svg, rung_numbers, rung_packet_svg, rung_in_row, rung_height, rung_title};
+ghost use Rattle.page_draw_session_svg.specs.SessionPictures.{rung_arrow_svg, outcome_dashes, rung_drawing_svg};
+ghost use Rattle.page_draw_session_svg.specs.SessionPictures.{rung_svg, upright_column, rung_label_column};
+ghost use Rattle.page_draw_session_svg.specs.SessionPictures.{rung_label_height, rung_label_svg, rung_margin_column};
+ghost use Rattle.page_draw_session_svg.specs.SessionPictures.{rung_margin_height, rung_margin_svg, rung_numbers};
+ghost use Rattle.page_draw_session_svg.specs.SessionPictures.{rung_packet_svg, rung_in_row, rung_height, rung_title};
 ghost use Rattle.book_draw_session.specs.Ladders.{said_texts};
 ghost use Rattle.book_lines.specs.Texts.{spaced};
 
@@ -80,7 +84,8 @@ pub(crate) fn outcome_dashes(said: SegmentOutcome) -> &'static [u8]
 
 /// The attributes of an arrow.
 fn push_tip(out: &mut Vec<u8>, said: SegmentOutcome) -> Result<(), AllocError>
-    ensures { OnOk result (out.new.items ≡ out.old.items ++ (codes " marker-end=\"url(#tip)\"" ++ outcome_dashes said)) }
+    ensures { OnOk result
+        (out.new.items ≡ out.old.items ++ (codes " marker-end=\"url(#tip)\"" ++ outcome_dashes said)) }
 {
     out.extend_from_slice(b" marker-end=\"url(#tip)\"")?;
     out.extend_from_slice(outcome_dashes(said))?;

@@ -1,7 +1,9 @@
 //! What stands in front of the segments of a picture.
 ghost use Rattle.std.specs.Prelude.{◌≡◌, ◌++◌, OnOk, codes};
 ghost use Rattle.book_draw_session.specs.Ladders.{end_name};
-ghost use Rattle.page_draw_session_svg.specs.SessionPictures.{outcome_dashes, session_front_svg, outcome_sample_svg, outcome_samples_svg, arrow_tip_svg, session_upright_svg, session_uprights_svg};
+ghost use Rattle.page_draw_session_svg.specs.SessionPictures.{outcome_dashes, session_front_svg, outcome_sample_svg};
+ghost use Rattle.page_draw_session_svg.specs.SessionPictures.{outcome_samples_svg, arrow_tip_svg};
+ghost use Rattle.page_draw_session_svg.specs.SessionPictures.{session_upright_svg, session_uprights_svg};
 ghost use Rattle.page_svg.specs.Tags.{words_tag};
 
 use crate::elements::{outcome_dashes, rung_height, upright_column};

@@ -4,7 +4,9 @@ ghost use Rattle.book_draw.specs.Ladders.{arrowhead, length_label, line_at, way_
 ghost use Rattle.book_lines.specs.Texts.{spaced};
 ghost use Rattle.book_link.specs.Reports.{verdict_text};
 ghost use Rattle.book_sessions.specs.SessionTexts.{id_text};
-ghost use Rattle.book_draw_session.specs.Ladders.{end_name, ends_text, flag_letter, flag_letters, line_to, margin_beside, names_text, numbered_line, said_texts, reached_end, rung_label, rung_stroke, session_rung_text, time_margin};
+ghost use Rattle.book_draw_session.specs.Ladders.{end_name, ends_text, flag_letter, flag_letters, line_to};
+ghost use Rattle.book_draw_session.specs.Ladders.{margin_beside, names_text, numbered_line, said_texts, reached_end};
+ghost use Rattle.book_draw_session.specs.Ladders.{rung_label, rung_stroke, session_rung_text, time_margin};
 
 use ao_base::push_decimal;
 use book_base::{End, Socket};
@@ -73,7 +75,8 @@ fn push_id(out: &mut Vec<u8>, id: Option<u8>) -> Result<(), AllocError>
 
 // Puts the two ids behind `out`, each with its word.
 pub(crate) fn push_ids(out: &mut Vec<u8>, ids: Option<KeyIds>) -> Result<(), AllocError>
-    ensures { OnOk result (out.new.items ≡ out.old.items ++ spaced (codes "key" ∷ id_text (option_map (λ ids. ids.key_id) ids)
+    ensures { OnOk result (out.new.items ≡ out.old.items ++ spaced
+        (codes "key" ∷ id_text (option_map (λ ids. ids.key_id) ids)
         ∷ codes "asks" ∷ id_text (option_map (λ ids. ids.rnext_key_id) ids) ∷ [])) }
 {
     push_text(out, b"key")?;
@@ -185,7 +188,8 @@ fn push_margin(out: &mut Vec<u8>, end: End, packet: u64, words: &[u8]) -> Result
 
 // Puts what is said of a segment that comes to this end behind `out`, as it stands beside the end.
 fn push_said(out: &mut Vec<u8>, at: End, rung: &SessionRung) -> Result<(), AllocError>
-    ensures { OnOk result (out.new.items ≡ out.old.items ++ margin_beside at rung.now.packet (spaced (said_texts rung.now.outcome))) }
+    ensures { OnOk result (out.new.items ≡ out.old.items ++ margin_beside at rung.now.packet
+        (spaced (said_texts rung.now.outcome))) }
 {
     let mut words = Vec::new(*out.allocator());
     push_outcome(&mut words, rung.outcome)?;
@@ -194,7 +198,8 @@ fn push_said(out: &mut Vec<u8>, at: End, rung: &SessionRung) -> Result<(), Alloc
 
 // Puts when a segment was seen that comes from this end behind `out`, as it stands beside the end.
 fn push_seen(out: &mut Vec<u8>, sender: End, rung: &SessionRung) -> Result<(), AllocError>
-    ensures { OnOk result (out.new.items ≡ out.old.items ++ margin_beside sender rung.now.packet (time_margin rung.now.time)) }
+    ensures { OnOk result (out.new.items ≡ out.old.items ++ margin_beside sender rung.now.packet
+        (time_margin rung.now.time)) }
 {
     let mut words = Vec::new(*out.allocator());
     push_time(&mut words, rung.time)?;

@@ -1,7 +1,8 @@
 //! The picture of a session.
 ghost use Rattle.std.specs.Prelude.{◌≡◌, ◌≤◌, ◌++◌, IfOk, OnOk, flat_map, length};
 ghost use Rattle.book_draw_session.specs.Times.{left_runs};
-ghost use Rattle.page_draw_session_svg.specs.SessionPictures.{session_line_svg, session_lines_picture, session_picture, session_rows};
+ghost use Rattle.page_draw_session_svg.specs.SessionPictures.{session_line_svg, session_lines_picture};
+ghost use Rattle.page_draw_session_svg.specs.SessionPictures.{session_picture, session_rows};
 
 use crate::fold::session_lines;
 use crate::heads::push_front;
@@ -21,7 +22,8 @@ fn push_elements(
     lines: &[SessionLine],
 ) -> Result<(), AllocError>
     requires { length lines.now ≤ 4294967295 }
-    ensures { OnOk result (out.new.items ≡ out.old.items ++ flat_map (session_line_svg ends.now) (session_rows lines.now)) }
+    ensures { OnOk result (out.new.items ≡ out.old.items ++ flat_map (session_line_svg ends.now)
+        (session_rows lines.now)) }
 {
     for (index, line) in lines.iter().enumerate() {
         push_line_element(out, ends, index as u32, line)?;

@@ -3,7 +3,8 @@ ghost use Rattle.std.specs.Prelude.{◌≡◌, ◌++◌, ◌∷◌, IfOk, OnOk, 
 ghost use Rattle.book_base.specs.declared.end.End.TheVariants.{A};
 ghost use Rattle.book_draw_session.specs.Folds.{run_label};
 ghost use Rattle.book_draw_session.specs.Ladders.{time_margin};
-ghost use Rattle.page_draw_session_svg.specs.SessionPictures.{line_element, run_drawing_svg, run_svg, run_title, rung_label_column, rung_margin_height};
+ghost use Rattle.page_draw_session_svg.specs.SessionPictures.{line_element, run_drawing_svg, run_svg, run_title};
+ghost use Rattle.page_draw_session_svg.specs.SessionPictures.{rung_label_column, rung_margin_height};
 ghost use Rattle.page_svg.specs.Tags.{words_tag};
 
 use crate::elements::{

@@ -1,6 +1,7 @@
 //! The elements of rungs.
 ghost use Rattle.std.specs.Prelude.{◌≡◌, ◌++◌, IfOk, OnOk, Some, codes, option_map};
-ghost use Rattle.page_draw_svg.specs.Pictures.{arrow_svg, came_label, dash_attribute, element_svg, is_whole, label_svg, leaving_svg, margin_svg, reaching_svg, words_beside};
+ghost use Rattle.page_draw_svg.specs.Pictures.{arrow_svg, came_label, dash_attribute, element_svg, is_whole};
+ghost use Rattle.page_draw_svg.specs.Pictures.{label_svg, leaving_svg, margin_svg, reaching_svg, words_beside};
 ghost use Rattle.page_svg.specs.Tags.{colour_text, titled_tag};
 
 use crate::positions::{
@@ -76,7 +77,8 @@ fn push_leaving(out: &mut Vec<u8>, end: End, row: u32, stroke: Stroke) -> Result
 
 /// The attributes of an arrow that comes.
 fn push_tip(out: &mut Vec<u8>, stroke: Stroke) -> Result<(), AllocError>
-    ensures { OnOk result (out.new.items ≡ out.old.items ++ (codes " marker-end=\"url(#tip)\"" ++ dash_attribute stroke)) }
+    ensures { OnOk result
+        (out.new.items ≡ out.old.items ++ (codes " marker-end=\"url(#tip)\"" ++ dash_attribute stroke)) }
 {
     out.extend_from_slice(b" marker-end=\"url(#tip)\"")?;
     out.extend_from_slice(dash_attribute(stroke))?;
@@ -112,7 +114,8 @@ fn title_of(alloc: Global, placed: &Placed) -> Result<Vec<u8>, AllocError>
 
 /// What is drawn of a segment that is made, and its label.
 fn made_drawing(alloc: Global, end: End, placed: &Placed) -> Result<Vec<u8>, AllocError>
-    ensures { IfOk result (λ text. text.items ≡ leaving_svg end placed.now.row placed.now.stroke ++ label_svg end placed.now) }
+    ensures { IfOk result (λ text. text.items ≡ leaving_svg end placed.now.row placed.now.stroke
+        ++ label_svg end placed.now) }
 {
     let mut text = Vec::new(alloc);
     push_leaving(&mut text, end, placed.row, placed.stroke)?;
@@ -146,7 +149,8 @@ fn push_made(out: &mut Vec<u8>, end: End, key_id: u8, placed: &Placed) -> Result
 
 /// The arrow of what comes, with its title.
 fn push_came(out: &mut Vec<u8>, end: End, placed: &Placed) -> Result<(), AllocError>
-    ensures { OnOk result (out.new.items ≡ out.old.items ++ titled_tag (codes "came") (colour_text (option_map (λ s. s.key_id) placed.now.start))
+    ensures { OnOk result (out.new.items ≡ out.old.items ++ titled_tag (codes "came")
+        (colour_text (option_map (λ s. s.key_id) placed.now.start))
         (placed.now.label ++ words_beside placed.now.stroke placed.now.rung)
         (reaching_svg end placed.now)) }
 {

@@ -1,6 +1,7 @@
 //! What stands in front of the rungs of a picture.
 ghost use Rattle.std.specs.Prelude.{◌≡◌, ◌++◌, OnOk, codes};
-ghost use Rattle.page_draw_svg.specs.Pictures.{dash_attribute, lost_tip_svg, sample_svg, samples_svg, tip_svg, tips_svg, upright_svg};
+ghost use Rattle.page_draw_svg.specs.Pictures.{dash_attribute, lost_tip_svg, sample_svg, samples_svg, tip_svg};
+ghost use Rattle.page_draw_svg.specs.Pictures.{tips_svg, upright_svg};
 
 use crate::arrows::dash_attribute;
 use crate::positions::end_column;

@@ -1,5 +1,6 @@
 //! What is kept of the rungs above: which segments came, and where the arrows of segments begin.
-ghost use Rattle.std.specs.Prelude.{◌≡◌, ◌∷◌, ◌==◌, ◌<◌, ◌+◌, Some, None, ℕ, List, [], OnOk, get_or, length, if◌then◌else◌};
+ghost use Rattle.std.specs.Prelude.{◌≡◌, ◌∷◌, ◌==◌, ◌<◌, ◌+◌, Some, None, ℕ, List, [], OnOk, get_or, length};
+ghost use Rattle.std.specs.Prelude.if◌then◌else◌;
 ghost use Rattle.std.specs.Option.{option_or};
 ghost use Rattle.book_draw.specs.declared.rung.Rung.{Rung as Step};
 ghost use Rattle.page_draw_svg.specs.Placements.{start_at, start_in, arrow_start, start_of_brought};
@@ -33,7 +34,8 @@ fn make_room(starts: &mut Vec<Option<Start>>, number: u32) -> Result<(), AllocEr
 
 /// Keeps where the arrow of the segment of this number begins.
 fn keep_start(starts: &mut Vec<Option<Start>>, number: u32, start: Start) -> Result<(), AllocError>
-    ensures { OnOk result ((n : ℕ) → get_or starts.new.items n None ≡ (if n == number then Some start else get_or starts.old.items n None)) }
+    ensures { OnOk result ((n : ℕ) → get_or starts.new.items n None
+        ≡ (if n == number then Some start else get_or starts.old.items n None)) }
 {
     make_room(starts, number)?;
     starts[number as usize] = Some(start);
@@ -83,7 +85,8 @@ impl Past {
 
     /// Keeps where an arrow begins, if the rung in this row makes a segment.
     fn keep(&mut self, row: u32, rung: &Rung) -> Result<(), AllocError>
-        ensures starts { OnOk result ((n : ℕ) → get_or self.new.starts.items n None ≡ option_or (start_in n row rung.now) (get_or self.old.starts.items n None)) }
+        ensures starts { OnOk result ((n : ℕ) → get_or self.new.starts.items n None
+            ≡ option_or (start_in n row rung.now) (get_or self.old.starts.items n None)) }
         ensures seen { OnOk result (self.new.seen ≡ self.old.seen) }
     {
         match rung {

@@ -25,7 +25,8 @@ fn push_elements(
     rungs: &[Rung],
 ) -> Result<(), AllocError>
     requires { length rungs.now ≤ 100000 }
-    ensures { OnOk result ((rs : List Step) → Saw all.now rs → out.new.items ≡ out.old.items ++ flat_map element_svg (placements_from rs [] rungs.now)) }
+    ensures { OnOk result ((rs : List Step) → Saw all.now rs → out.new.items
+        ≡ out.old.items ++ flat_map element_svg (placements_from rs [] rungs.now)) }
 {
     let mut past = Past::new(alloc);
     for (index, rung) in rungs.iter().enumerate() {

@@ -1,7 +1,8 @@
 //! A rung in its place.
 ghost use Rattle.std.specs.Prelude.{◌≡◌, ℕ, List, IfOk};
 ghost use Rattle.book_draw.specs.declared.rung.Rung.{Rung as Step};
-ghost use Rattle.page_draw_svg.specs.Placements.{label_of_rung, placed_at, start_of_rung, stroke_of_brought, stroke_of_rung};
+ghost use Rattle.page_draw_svg.specs.Placements.{label_of_rung, placed_at, start_of_rung, stroke_of_brought};
+ghost use Rattle.page_draw_svg.specs.Placements.stroke_of_rung;
 ghost use Rattle.draw_ladder.specs.Sights.{Saw};
 ghost use Rattle.draw_svg.specs.Kept.{Keeps};
 
@@ -31,7 +32,8 @@ fn stroke_of_brought(past: &Past, what: Brought) -> Stroke
 
 /// The stroke of a rung.
 fn stroke_of(all: &Seen, past: &Past, rung: &Rung) -> Stroke
-    ensures { (rs earlier : List Step) (row : ℕ) → Saw all.now rs → Keeps past.now row earlier → result ≡ stroke_of_rung rs earlier rung.now }
+    ensures { (rs earlier : List Step) (row : ℕ) → Saw all.now rs → Keeps past.now row earlier
+        → result ≡ stroke_of_rung rs earlier rung.now }
 {
     match rung {
         Rung::Made(_, _, _) => {
@@ -48,7 +50,8 @@ fn stroke_of(all: &Seen, past: &Past, rung: &Rung) -> Stroke
 
 /// What is written on the arrow of a rung.
 fn label_of(alloc: Global, past: &Past, rung: &Rung) -> Result<Bytes, AllocError>
-    ensures { IfOk result (λ text. (row : ℕ) (rs : List Step) → Keeps past.now row rs → text ≡ label_of_rung rs rung.now) }
+    ensures { IfOk result (λ text. (row : ℕ) (rs : List Step) → Keeps past.now row rs
+        → text ≡ label_of_rung rs rung.now) }
 {
     let mut label = Vec::new(alloc);
     match rung {
@@ -77,7 +80,8 @@ pub(crate) fn placed_at(
     row: u32,
     rung: &Rung,
 ) -> Result<Placed, AllocError>
-    ensures { IfOk result (λ p. (rs earlier : List Step) → Saw all.now rs → Keeps past.now row earlier → p ≡ placed_at rs earlier rung.now) }
+    ensures { IfOk result (λ p. (rs earlier : List Step) → Saw all.now rs → Keeps past.now row earlier
+        → p ≡ placed_at rs earlier rung.now) }
 {
     let label = label_of(alloc, past, rung)?;
     Ok(Placed {

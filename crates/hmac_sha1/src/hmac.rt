@@ -53,7 +53,8 @@ impl<H: BlockHash<N>, const N: usize> Hmac<H, N> {
 
     /// Feeds the next piece of the message, of any length.
     pub fn update(&mut self, piece: &[u8])
-        ensures { (key fed : List ℕ) → StandsFor H.holds H.hash self.old key fed → StandsFor H.holds H.hash self.new key (fed ++ piece.now) }
+        ensures { (key fed : List ℕ) → StandsFor H.holds H.hash self.old key fed
+            → StandsFor H.holds H.hash self.new key (fed ++ piece.now) }
     {
         self.inner.feed(piece);
     }

@@ -25,7 +25,8 @@ pub fn check_by<K: Source, I: Source, O: Sink>(
     capture: &mut I,
     out: &mut O,
 ) -> Result<bool, Unchecked>
-    ensures { (text : List ℕ) × Gave text (K.side keys.old) (K.side keys.new) × ChecksBy text (I.side capture.old) (I.side capture.new) (O.side out.old) (O.side out.new) result }
+    ensures { (text : List ℕ) × Gave text (K.side keys.old) (K.side keys.new)
+        × ChecksBy text (I.side capture.old) (I.side capture.new) (O.side out.old) (O.side out.new) result }
 {
     let text = match read_all(alloc, keys, MOST_KEYS) {
         Ok(text) => text,

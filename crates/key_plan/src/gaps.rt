@@ -1,5 +1,6 @@
 //! The gaps of an end.
-ghost use Rattle.std.specs.Prelude.{◌≡◌, ℕ, ◌+◌, ◌-◌, ◌≤◌, ◌<◌, ◌&&◌, ◌++◌, nat_lt, nat_le, map, true, false, IfOk, OnOk};
+ghost use Rattle.std.specs.Prelude.{◌≡◌, ℕ, ◌+◌, ◌-◌, ◌≤◌, ◌<◌, ◌&&◌, ◌++◌, nat_lt, nat_le, map, true, false, IfOk};
+ghost use Rattle.std.specs.Prelude.OnOk;
 ghost use Rattle.book_keys.specs.Lifetimes.{is_covered};
 ghost use Rattle.book_keys.specs.Plans.{send_lifetimes};
 ghost use Rattle.book_plans.specs.Findings.{failing_spans, gap_finding, gap_findings};
@@ -24,7 +25,9 @@ fn send_lifetimes(alloc: Global, rows: &[Row], pair: &Pair) -> Result<Vec<Lifeti
 
 /// Whether the lifetime begins after one time and by another, and has a second.
 fn is_beginning(lifetime: &Lifetime, after: u64, by: u64) -> bool
-    ensures { result ≡ (nat_lt after lifetime.now.first && (nat_le lifetime.now.first by && nat_le lifetime.now.first lifetime.now.last)) }
+    ensures { result
+        ≡ (nat_lt after lifetime.now.first && (nat_le lifetime.now.first by
+        && nat_le lifetime.now.first lifetime.now.last)) }
 {
     after < lifetime.first && (lifetime.first <= by && lifetime.first <= lifetime.last)
 }
@@ -55,7 +58,8 @@ pub(crate) fn add_uncovered(
     from: u64,
     to: u64,
 ) -> Result<(), AllocError>
-    ensures { OnOk result (findings.new.items ≡ findings.old.items ++ map (gap_finding end) (failing_spans (is_covered lifetimes.now) from (to + 1 - from))) }
+    ensures { OnOk result (findings.new.items ≡ findings.old.items
+        ++ map (gap_finding end) (failing_spans (is_covered lifetimes.now) from (to + 1 - from))) }
 {
     let mut time = from;
     while time <= to {

@@ -2,7 +2,8 @@
 ghost use Rattle.std.specs.Prelude.{◌≡◌, Some};
 ghost use Rattle.book_keys.specs.Plans.{mirrored, rows_at};
 ghost use Rattle.book_plans.specs.declared.margin.Margin.TheVariants as margin;
-ghost use Rattle.book_plans.specs.Margins.{AreOrdered, AlignedAtLead, AlignedAtLag, IsMargin, narrower, narrowest, lead_margin_of, lag_margin_of};
+ghost use Rattle.book_plans.specs.Margins.{AreOrdered, AlignedAtLead, AlignedAtLag, IsMargin, narrower, narrowest};
+ghost use Rattle.book_plans.specs.Margins.{lead_margin_of, lag_margin_of};
 ghost use Rattle.key_plan.specs.Asked.{margin_of_row, margin_of_plan};
 
 use crate::way::{Given, narrower, narrowest};
@@ -12,7 +13,8 @@ use key_table::{Tables, mirrored};
 
 /// What the tables of both ends leave.
 fn margin_of_plan(given: Given, tables: &Tables, pair: &Pair) -> Option<Margin>
-    ensures { result ≡ margin_of_plan given (rows_at tables.now pair.now.local.address) (rows_at tables.now pair.now.remote.address) pair.now }
+    ensures { result ≡ margin_of_plan given (rows_at tables.now pair.now.local.address)
+        (rows_at tables.now pair.now.remote.address) pair.now }
 {
     let here = tables.rows_at(&pair.local.address);
     let there = tables.rows_at(&pair.remote.address);
@@ -30,8 +32,10 @@ fn margin_of_plan(given: Given, tables: &Tables, pair: &Pair) -> Option<Margin>
 /// Where `lint` says `Aligned`, it does so with another lead exactly within this margin.
 pub fn lead_margin(tables: &Tables, pair: &Pair, lag: u64) -> Option<Margin>
     ensures value { result ≡ lead_margin_of tables.now pair.now lag }
-    ensures greatest { AreOrdered (rows_at tables.now pair.now.local.address) → AreOrdered (rows_at tables.now pair.now.remote.address)
-        → IsMargin (AlignedAtLead (rows_at tables.now pair.now.local.address) (rows_at tables.now pair.now.remote.address) pair.now lag) result }
+    ensures greatest { AreOrdered (rows_at tables.now pair.now.local.address)
+        → AreOrdered (rows_at tables.now pair.now.remote.address)
+        → IsMargin (AlignedAtLead (rows_at tables.now pair.now.local.address)
+        (rows_at tables.now pair.now.remote.address) pair.now lag) result }
 {
     margin_of_plan(Given::Lag(lag), tables, pair)
 }
@@ -40,8 +44,10 @@ pub fn lead_margin(tables: &Tables, pair: &Pair, lag: u64) -> Option<Margin>
 /// is `lead` seconds; else as `lead_margin`.
 pub fn lag_margin(tables: &Tables, pair: &Pair, lead: u64) -> Option<Margin>
     ensures value { result ≡ lag_margin_of tables.now pair.now lead }
-    ensures greatest { AreOrdered (rows_at tables.now pair.now.local.address) → AreOrdered (rows_at tables.now pair.now.remote.address)
-        → IsMargin (AlignedAtLag (rows_at tables.now pair.now.local.address) (rows_at tables.now pair.now.remote.address) pair.now lead) result }
+    ensures greatest { AreOrdered (rows_at tables.now pair.now.local.address)
+        → AreOrdered (rows_at tables.now pair.now.remote.address)
+        → IsMargin (AlignedAtLag (rows_at tables.now pair.now.local.address)
+        (rows_at tables.now pair.now.remote.address) pair.now lead) result }
 {
     margin_of_plan(Given::Lead(lead), tables, pair)
 }

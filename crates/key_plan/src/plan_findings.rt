@@ -4,7 +4,8 @@ ghost use Rattle.std.specs.List.{list_any};
 ghost use Rattle.book_keys.specs.declared.lint.LintAnswer.TheVariants as answer;
 ghost use Rattle.book_keys.specs.Plans.{mirrored, accepts_from, accepts_throughout, unmet_reason, lint_of};
 ghost use Rattle.book_keys.specs.Rows.{row_limit};
-ghost use Rattle.book_plans.specs.Findings.{finding_by, unmet_findings, findings, findings_of, first_answer, wanted_accepting, widened};
+ghost use Rattle.book_plans.specs.Findings.{finding_by, unmet_findings, findings, findings_of, first_answer};
+ghost use Rattle.book_plans.specs.Findings.{wanted_accepting, widened};
 
 use crate::alike::is_accepting_from;
 use crate::gaps::add_gaps;
@@ -52,7 +53,8 @@ impl<'a> Way<'a> {
     }
 
     fn is_accepted_throughout(&self, row: &Row) -> bool
-        ensures { result ≡ list_any (accepts_throughout self.now.pair self.now.lead self.now.lag row.now) self.now.others.now }
+        ensures { result ≡ list_any (accepts_throughout self.now.pair self.now.lead self.now.lag row.now)
+            self.now.others.now }
     {
         self.others.iter().any(|other| is_accepting_throughout(
             &self.pair, self.lead, self.lag, row, other,
@@ -61,7 +63,8 @@ impl<'a> Way<'a> {
 
     /// Why the row of this end and number isn't met at the other end.
     fn unmet(&self, end: End, number: u8, row: &Row) -> Option<Finding>
-        ensures { result ≡ option_map (finding_by end number) (unmet_reason self.now.others.now self.now.pair self.now.lead self.now.lag row.now) }
+        ensures { result ≡ option_map (finding_by end number)
+            (unmet_reason self.now.others.now self.now.pair self.now.lead self.now.lag row.now) }
     {
         if !row.is_sending_for(&self.pair) {
             None
@@ -77,7 +80,9 @@ impl<'a> Way<'a> {
     /// Adds each row that isn't met, in order; the rows are those of `end`.
     fn add_unmet(&self, findings: &mut Vec<Finding>, end: End) -> Result<(), AllocError>
         requires { length self.now.rows.now ≤ row_limit }
-        ensures { OnOk result (findings.new.items ≡ findings.old.items ++ unmet_findings (unmet_reason self.now.others.now self.now.pair self.now.lead self.now.lag) end 1 self.now.rows.now) }
+        ensures { OnOk result (findings.new.items ≡ findings.old.items
+            ++ unmet_findings (unmet_reason self.now.others.now self.now.pair self.now.lead self.now.lag) end 1
+            self.now.rows.now) }
     {
         for (i, row) in self.rows.iter().enumerate() {
             if let Some(finding) = self.unmet(end, (i + 1) as u8, row) {
@@ -142,9 +147,13 @@ pub fn findings(
     from: u64,
     to: u64,
 ) -> Result<Vec<Finding>, AllocError>
-    ensures value { IfOk result (λ v. v.items ≡ findings_of tables.now pair.now (record { lead = lead; lag = lag; from = from; to = to })) }
-    ensures first { IfOk result (λ v. first_answer v.items ≡ lint_of tables.now pair.now (record { lead = lead; lag = lag; from = from; to = to })) }
-    ensures none { IfOk result (λ v. (v.items ≡ []) ↔ (lint_of tables.now pair.now (record { lead = lead; lag = lag; from = from; to = to }) ≡ answer.Aligned)) }
+    ensures value { IfOk result (λ v. v.items ≡ findings_of tables.now pair.now
+        (record { lead = lead; lag = lag; from = from; to = to })) }
+    ensures first { IfOk result (λ v. first_answer v.items ≡ lint_of tables.now pair.now
+        (record { lead = lead; lag = lag; from = from; to = to })) }
+    ensures none { IfOk result
+        (λ v. (v.items ≡ [])
+        ↔ (lint_of tables.now pair.now (record { lead = lead; lag = lag; from = from; to = to }) ≡ answer.Aligned)) }
 {
     let there = Way {
         rows: tables.rows_at(&pair.local.address),

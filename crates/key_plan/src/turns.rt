@@ -4,7 +4,8 @@ ghost use Rattle.std.specs.List.{All};
 ghost use Rattle.book_keys.specs.Lifetimes.{contains};
 ghost use Rattle.book_keys.specs.Plans.{mirrored, rows_at};
 ghost use Rattle.book_keys.specs.Rows.{sendable, acceptable};
-ghost use Rattle.book_plans.specs.Calendar.{planned, is_number, has_role, turn_at, turn_by, role_turn, row_turns, turns_from, turns_after, turns_in, calendar_of, Keeps};
+ghost use Rattle.book_plans.specs.Calendar.{planned, is_number, has_role, turn_at, turn_by, role_turn, row_turns};
+ghost use Rattle.book_plans.specs.Calendar.{turns_from, turns_after, turns_in, calendar_of, Keeps};
 
 use book_base::{Address, End, Pair};
 use book_plans::{Role, Turn};
@@ -41,7 +42,8 @@ struct Second<'a> {
 impl<'a> Second<'a> {
     /// Whether the row of this number has the role at the time.
     fn has_role(&self, number: u8, row: &Row, role: Role, time: u64) -> bool
-        ensures { result ≡ has_role (planned self.now.end self.now.table.now.rows self.now.pair) number time row.now role }
+        ensures { result ≡ has_role (planned self.now.end self.now.table.now.rows self.now.pair) number time row.now
+            role }
     {
         match role {
             Role::Acceptable => is_acceptable(row, &self.pair, time),
@@ -60,7 +62,9 @@ impl<'a> Second<'a> {
         role: Role,
     ) -> Result<(), AllocError>
         requires { self.now.time < 18446744073709551615 }
-        ensures { OnOk result (turns.new.items ≡ turns.old.items ++ role_turn (planned self.now.end self.now.table.now.rows self.now.pair) self.now.time number row.now role) }
+        ensures { OnOk result (turns.new.items ≡ turns.old.items
+            ++ role_turn (planned self.now.end self.now.table.now.rows self.now.pair) self.now.time number row.now
+            role) }
     {
         let time = self.time + 1;
         let before = self.has_role(number, row, role, self.time);
@@ -71,7 +75,8 @@ impl<'a> Second<'a> {
     /// Adds the turns of a row.
     fn add_row(&self, turns: &mut Vec<Turn>, number: u8, row: &Row) -> Result<(), AllocError>
         requires { self.now.time < 18446744073709551615 }
-        ensures { OnOk result (turns.new.items ≡ turns.old.items ++ row_turns (planned self.now.end self.now.table.now.rows self.now.pair) self.now.time number row.now) }
+        ensures { OnOk result (turns.new.items ≡ turns.old.items
+            ++ row_turns (planned self.now.end self.now.table.now.rows self.now.pair) self.now.time number row.now) }
     {
         self.add_role(turns, number, row, Role::Acceptable)?;
         self.add_role(turns, number, row, Role::AskedFor)?;
@@ -83,7 +88,9 @@ impl<'a> Second<'a> {
     /// Adds the turns of each row, in order.
     fn add_all(&self, turns: &mut Vec<Turn>) -> Result<(), AllocError>
         requires { self.now.time < 18446744073709551615 }
-        ensures { OnOk result (turns.new.items ≡ turns.old.items ++ turns_from (planned self.now.end self.now.table.now.rows self.now.pair) self.now.time 1 self.now.table.now.rows) }
+        ensures { OnOk result (turns.new.items ≡ turns.old.items
+            ++ turns_from (planned self.now.end self.now.table.now.rows self.now.pair) self.now.time 1
+            self.now.table.now.rows) }
     {
         // It tells that a table has at most 64 rows, so that each number fits.
         let _count = self.table.rows();
@@ -193,7 +200,8 @@ fn add_end(
     time: u64,
 ) -> Result<(), AllocError>
     requires { time < 18446744073709551615 }
-    ensures { OnOk result (turns.new.items ≡ turns.old.items ++ turns_from (planned end (rows_at tables.now address.now) pair) time 1 (rows_at tables.now address.now)) }
+    ensures { OnOk result (turns.new.items ≡ turns.old.items ++ turns_from
+        (planned end (rows_at tables.now address.now) pair) time 1 (rows_at tables.now address.now)) }
 {
     match tables.table(address) {
         Some(table) => {
@@ -217,7 +225,8 @@ fn add_second(
     time: u64,
 ) -> Result<(), AllocError>
     requires { time < 18446744073709551615 }
-    ensures { OnOk result (turns.new.items ≡ turns.old.items ++ turns_after (rows_at tables.now pair.now.local.address) (rows_at tables.now pair.now.remote.address) pair.now time) }
+    ensures { OnOk result (turns.new.items ≡ turns.old.items ++ turns_after (rows_at tables.now pair.now.local.address)
+        (rows_at tables.now pair.now.remote.address) pair.now time) }
 {
     add_end(turns, tables, &pair.local.address, End::A, *pair, time)?;
     add_end(

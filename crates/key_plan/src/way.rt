@@ -70,7 +70,8 @@ fn time_after(accepted: u64, sent: u64) -> Margin
 
 /// Whether accepting begins by `lead` before sending does, and goes on until `lag` after it.
 pub(crate) fn is_in_time(lead: u64, lag: u64, sending: Lifetime, accepting: Lifetime) -> bool
-    ensures { result ≡ (contains accepting (sending.first - lead) && contains accepting (min greatest_time (sending.last + lag))) }
+    ensures { result ≡ (contains accepting (sending.first - lead)
+        && contains accepting (min greatest_time (sending.last + lag))) }
 {
     accepting.contains(sending.first.saturating_sub(lead))
         && accepting.contains(LATEST.min(sending.last.saturating_add(lag)))

@@ -1,11 +1,14 @@
 //! Ways to mend a plan: another lifetime of a row, and what stands in its way.
 ghost use Rattle.std.specs.Prelude.{◌≡◌, ◌≤◌, length, option_map, IfOk, IfSome, true, Some};
 ghost use Rattle.std.specs.List.{list_any};
-ghost use Rattle.book_keys.specs.Overlaps.{accepts_meet, lifetimes_meet, overlaps, pairs_meet, peer_meets, peers_meet, ports_meet, sends_meet};
+ghost use Rattle.book_keys.specs.Overlaps.{accepts_meet, lifetimes_meet, overlaps, pairs_meet, peer_meets};
+ghost use Rattle.book_keys.specs.Overlaps.{peers_meet, ports_meet, sends_meet};
 ghost use Rattle.book_keys.specs.Plans.{outlasts, accepts_throughout, send_lifetimes};
 ghost use Rattle.book_keys.specs.Rows.{row_limit};
 ghost use Rattle.book_plans.specs.Findings.{accepting_in};
-ghost use Rattle.book_plans.specs.Ways.{are_none, becomes_endless, changed_row, first_clash, fitting_accepting, fitting_sending, is_accepted, keeps_sending, accepting_obstacle, sending_in, sending_obstacle};
+ghost use Rattle.book_plans.specs.Ways.{are_none, becomes_endless, changed_row, first_clash, fitting_accepting};
+ghost use Rattle.book_plans.specs.Ways.{fitting_sending, is_accepted, keeps_sending, accepting_obstacle, sending_in};
+ghost use Rattle.book_plans.specs.Ways.sending_obstacle;
 ghost use Rattle.key_plan.specs.Sides.{lasting, side_of};
 
 use crate::alike::is_accepting_from;
@@ -151,7 +154,9 @@ impl<'a> Side<'a> {
         sending: Lifetime,
     ) -> Result<Vec<Lifetime>, AllocError>
         requires { length self.now.rows.now ≤ row_limit }
-        ensures { IfOk result (λ v. v.items ≡ send_lifetimes (changed_row (sending_in sending) number 1 self.now.rows.now) self.now.pair) }
+        ensures { IfOk result
+            (λ v. v.items ≡ send_lifetimes (changed_row (sending_in sending) number 1 self.now.rows.now)
+            self.now.pair) }
     {
         let mut lifetimes = Vec::new(alloc);
         for (i, row) in self.rows.iter().enumerate() {

@@ -2,7 +2,8 @@
 ghost use Rattle.std.specs.Prelude.{◌≡◌, ◌≤◌, ◌+◌, drop, length, option_map, IfSome, Some};
 ghost use Rattle.std.specs.List.{list_any, position_from};
 ghost use Rattle.book_segments.specs.Sockets.{same_address};
-ghost use Rattle.book_keys.specs.Overlaps.{peer_meets, peers_meet, ports_meet, lifetimes_meet, pairs_meet, accepts_meet, sends_meet, overlaps, first_overlap};
+ghost use Rattle.book_keys.specs.Overlaps.{peer_meets, peers_meet, ports_meet, lifetimes_meet, pairs_meet};
+ghost use Rattle.book_keys.specs.Overlaps.{accepts_meet, sends_meet, overlaps, first_overlap};
 ghost use Rattle.book_keys.specs.Rows.{node_limit, row_limit};
 ghost use Rattle.book_keys.specs.Nodes.{overlap_in};
 ghost use Rattle.key_table.specs.Pairs.{two_of};

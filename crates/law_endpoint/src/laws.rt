@@ -11,6 +11,11 @@ ghost use Rattle.law_endpoint.specs.Moving.{moves};
 /// for its current key, and whether an ACK is owed: no byte, acknowledgement or window of it is taken,
 /// and no phase changes (RFC 9293, section 3.10.7, in a profile).
 pub fn only_what_is_taken_moves()
-    ensures { (rows : List Row) (pair : Pair) (now : ℕ) (s : EndState) (r : Reading) → moves (arrive rows pair now s r).answer ≡ false
-        → (arrive rows pair now s r).state ≡ record s { current = (arrive rows pair now s r).state.current; ack_owed = (arrive rows pair now s r).state.ack_owed } }
+    ensures { (rows : List Row) (pair : Pair) (now : ℕ) (s : EndState) (r : Reading)
+        → moves (arrive rows pair now s r).answer ≡ false
+        → (arrive rows pair now s r).state
+        ≡ record s {
+          current = (arrive rows pair now s r).state.current;
+          ack_owed = (arrive rows pair now s r).state.ack_owed;
+        } }
 {}

@@ -21,24 +21,28 @@ ghost use Rattle.law_headline.specs.GetsThrough.{GetsThrough};
 /// The sockets of a link file with the tables of a key file, or with those of the key that the link
 /// file names, fit a link, and so does each event of a link file.
 pub fn link_files_fit()
-    ensures keyed { (keys text : List ℕ) (tables : List Table) (script : Script) → tables_of keys ≡ Ok tables → script_of keys_from.KeyFile text ≡ Ok script
+    ensures keyed { (keys text : List ℕ) (tables : List Table) (script : Script) → tables_of keys ≡ Ok tables
+        → script_of keys_from.KeyFile text ≡ Ok script
         → SetupFits (setup_of tables script.a script.b) }
     ensures shared { (text : List ℕ) (script : Script) → script_of keys_from.LinkFile text ≡ Ok script
         → SetupFits (setup_of (shared_by script script.shared) script.a script.b) }
-    ensures events { (keys : KeysFrom) (text : List ℕ) (script : Script) → script_of keys text ≡ Ok script → AllByRecursion EventFits script.events }
+    ensures events { (keys : KeysFrom) (text : List ℕ) (script : Script) → script_of keys text ≡ Ok script
+        → AllByRecursion EventFits script.events }
 {}
 
 /// The tables of a key file, at whichever sockets, have no overlap, and neither have those of the key
 /// that a link file names.
 pub fn tables_fit()
-    ensures keyed { (keys : List ℕ) (tables : List Table) (a b : Socket) → tables_of keys ≡ Ok tables → TablesFit (setup_of tables a b) }
+    ensures keyed { (keys : List ℕ) (tables : List Table) (a b : Socket) → tables_of keys ≡ Ok tables
+        → TablesFit (setup_of tables a b) }
     ensures shared { (script : Script) → TablesFit (setup_of (shared_by script script.shared) script.a script.b) }
 {}
 
 /// The run of a link file over a key file gets through, whether `link` or `bgp` makes it, and so does
 /// that of a link file that names its key.
 pub fn link_files_get_through()
-    ensures keyed { (keys text : List ℕ) (tables : List Table) (script : Script) → tables_of keys ≡ Ok tables → script_of keys_from.KeyFile text ≡ Ok script
+    ensures keyed { (keys text : List ℕ) (tables : List Table) (script : Script) → tables_of keys ≡ Ok tables
+        → script_of keys_from.KeyFile text ≡ Ok script
         → GetsThrough (setup_of tables script.a script.b) script.events }
     ensures shared { (text : List ℕ) (script : Script) → script_of keys_from.LinkFile text ≡ Ok script
         → GetsThrough (setup_of (shared_by script script.shared) script.a script.b) script.events }
@@ -48,13 +52,16 @@ pub fn link_files_get_through()
 /// event of the plain run that such a file is; where that has no more events than a link with timers
 /// may have, it gets through.
 pub fn timed_files_fit()
-    ensures link { (keys text : List ℕ) (tables : List Table) (script : TimedScript) → tables_of keys ≡ Ok tables → timed_script_of text ≡ Ok script
+    ensures link { (keys text : List ℕ) (tables : List Table) (script : TimedScript) → tables_of keys ≡ Ok tables
+        → timed_script_of text ≡ Ok script
         → SetupFits (setup_of tables script.a script.b) }
     ensures events { (setup : Setup) (text : List ℕ) (script : TimedScript) → timed_script_of text ≡ Ok script
         → AllByRecursion EventFits (expand setup script.events).events }
-    ensures through { (keys text : List ℕ) (tables : List Table) (script : TimedScript) → tables_of keys ≡ Ok tables → timed_script_of text ≡ Ok script
+    ensures through { (keys text : List ℕ) (tables : List Table) (script : TimedScript) → tables_of keys ≡ Ok tables
+        → timed_script_of text ≡ Ok script
         → length (expand (setup_of tables script.a script.b) script.events).events ≤ most_events
-        → GetsThrough (setup_of tables script.a script.b) (expand (setup_of tables script.a script.b) script.events).events }
+        → GetsThrough (setup_of tables script.a script.b) (expand (setup_of tables script.a script.b)
+        script.events).events }
 {}
 
 /// The link of a storm and each of its events fit, its tables have no overlap, and a storm of at most

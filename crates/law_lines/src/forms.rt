@@ -16,11 +16,24 @@ ghost use Rattle.book_scope.specs.PacketLines.{packet_line};
 pub fn lines_are_those_of_the_line_form()
     ensures raw { (n time original : ℕ) (bytes : List ℕ) (d : Datagram)
         → frame_datagram (record { time = Some time; link = 101; original = original; bytes = bytes }) ≡ Ok d
-        → packet_line (record { number = n; frame = record { time = Some time; link = 101; original = original; bytes = bytes } }) ≡ line_form_of (time / 1000000000) (datagram_of Raw bytes) }
+        → packet_line
+        (record {
+          number = n;
+          frame = record {
+            time = Some time;
+            link = 101;
+            original = original;
+            bytes = bytes;
+          };
+        }) ≡ line_form_of (time / 1000000000) (datagram_of Raw bytes) }
     ensures v4 { (n time original : ℕ) (bytes rest : List ℕ) (d : Datagram) → drop 12 bytes ≡ 8 ∷ 0 ∷ rest
         → frame_datagram (record { time = Some time; link = 1; original = original; bytes = bytes }) ≡ Ok d
-        → packet_line (record { number = n; frame = record { time = Some time; link = 1; original = original; bytes = bytes } }) ≡ line_form_of (time / 1000000000) (datagram_of Ethernet bytes) }
+        → packet_line
+        (record { number = n; frame = record { time = Some time; link = 1; original = original; bytes = bytes } })
+        ≡ line_form_of (time / 1000000000) (datagram_of Ethernet bytes) }
     ensures v6 { (n time original : ℕ) (bytes rest : List ℕ) (d : Datagram) → drop 12 bytes ≡ 134 ∷ 221 ∷ rest
         → frame_datagram (record { time = Some time; link = 1; original = original; bytes = bytes }) ≡ Ok d
-        → packet_line (record { number = n; frame = record { time = Some time; link = 1; original = original; bytes = bytes } }) ≡ line_form_of (time / 1000000000) (datagram_of Ethernet bytes) }
+        → packet_line
+        (record { number = n; frame = record { time = Some time; link = 1; original = original; bytes = bytes } })
+        ≡ line_form_of (time / 1000000000) (datagram_of Ethernet bytes) }
 {}

@@ -16,8 +16,11 @@ ghost use Rattle.law_lines.specs.SeenPackets.{AreSeen};
 /// So it is of packets of any capture, behind whatever headers, whose numbers and times have 64 bits; and of those
 /// of each classic file, in either resolution, that is a header and whole records.
 pub fn check_judges_what_lines_writes()
-    ensures packets { (packets : List CapturePacket) → AreSeen 1 packets → stored_input (packet_lines packets) ≡ record { stored = all_captured packets; fault = None } }
-    ensures files { (head : PcapHead) (kept : List KeptPacket) (file : List ℕ) → All (λ b. b < 256) file → length file < 9223372036854775808 → IsPcapFile head kept [] file
-        → stored_input (packet_lines (capture_of file).packets) ≡ record { stored = all_captured (capture_of file).packets; fault = None } }
+    ensures packets { (packets : List CapturePacket) → AreSeen 1 packets
+        → stored_input (packet_lines packets) ≡ record { stored = all_captured packets; fault = None } }
+    ensures files { (head : PcapHead) (kept : List KeptPacket) (file : List ℕ) → All (λ b. b < 256) file
+        → length file < 9223372036854775808 → IsPcapFile head kept [] file
+        → stored_input (packet_lines (capture_of file).packets)
+        ≡ record { stored = all_captured (capture_of file).packets; fault = None } }
     ensures mended { (packets : List CapturePacket) → all_stored packets ≡ map mended_of (all_captured packets) }
 {}

@@ -6,7 +6,8 @@ ghost use Rattle.book_link.specs.declared.event.Event.{Event};
 ghost use Rattle.book_link.specs.declared.event.Event.TheVariants.{At};
 ghost use Rattle.book_link.specs.declared.event.Action.TheVariants.{Send, Resend, Deliver};
 ghost use Rattle.book_link.specs.Outcomes.{WithoutKey};
-ghost use Rattle.law_link.specs.Laws.{SetupFits, TablesFit, EventFits, IsCovered, RollsOver, IsAdmitted, HasOrigin, ResetsByAbort};
+ghost use Rattle.law_link.specs.Laws.{SetupFits, TablesFit, EventFits, IsCovered, RollsOver, IsAdmitted, HasOrigin};
+ghost use Rattle.law_link.specs.Laws.ResetsByAbort;
 ghost use Rattle.book_link.specs.Runs.{run};
 ghost use Rattle.book_link.specs.Steps.{step};
 ghost use Rattle.book_link.specs.Worlds.{Setup, Made};
@@ -15,8 +16,10 @@ ghost use Rattle.book_link.specs.Worlds.{Setup, Made};
 /// reading lies in, the outcome isn't that there is no key. It holds for every setup and every list
 /// of events.
 pub fn never_keyless()
-    ensures send { (setup : Setup) (events : List Event) (e : End) → IsCovered setup (run setup events) e → (step setup (run setup events) (At e Send)).outcome ≢ WithoutKey }
-    ensures resend { (setup : Setup) (events : List Event) (e : End) → IsCovered setup (run setup events) e → (step setup (run setup events) (At e Resend)).outcome ≢ WithoutKey }
+    ensures send { (setup : Setup) (events : List Event) (e : End) → IsCovered setup (run setup events) e
+        → (step setup (run setup events) (At e Send)).outcome ≢ WithoutKey }
+    ensures resend { (setup : Setup) (events : List Event) (e : End) → IsCovered setup (run setup events) e
+        → (step setup (run setup events) (At e Resend)).outcome ≢ WithoutKey }
 {}
 
 /// A segment that is delivered as it was made, to the live session that it is addressed to, within
@@ -25,18 +28,22 @@ pub fn never_keyless()
 /// additions and withdrawals in between don't matter. The premises say what the types of a setup
 /// and of events say, and that the first tables are valid.
 pub fn rolls_over()
-    ensures { (setup : Setup) (events : List Event) (e : End) (name : ℕ) (m : Made) → SetupFits setup → TablesFit setup → AllByRecursion EventFits events → RollsOver setup (run setup events) e name m → IsAdmitted (step setup (run setup events) (At e (Deliver name))).outcome }
+    ensures { (setup : Setup) (events : List Event) (e : End) (name : ℕ) (m : Made) → SetupFits setup → TablesFit setup
+        → AllByRecursion EventFits events → RollsOver setup (run setup events) e name m
+        → IsAdmitted (step setup (run setup events) (At e (Deliver name))).outcome }
 {}
 
 /// Where a run counts no forgery, an arrival without SYN that passes at a session has the number,
 /// flags, acknowledgement, window, key ids and payload of a segment that the session's partner had
 /// made before.
 pub fn has_origin()
-    ensures { (setup : Setup) (events : List Event) (event : Event) → SetupFits setup → AllByRecursion EventFits events → EventFits event → HasOrigin setup (run setup events) event }
+    ensures { (setup : Setup) (events : List Event) (event : Event) → SetupFits setup → AllByRecursion EventFits events
+        → EventFits event → HasOrigin setup (run setup events) event }
 {}
 
 /// Where a run counts no forgery, an arrival resets a session only where abort had been called on
 /// the session's partner before.
 pub fn resets_by_abort()
-    ensures { (setup : Setup) (events : List Event) (event : Event) → SetupFits setup → AllByRecursion EventFits events → EventFits event → ResetsByAbort setup (run setup events) event }
+    ensures { (setup : Setup) (events : List Event) (event : Event) → SetupFits setup → AllByRecursion EventFits events
+        → EventFits event → ResetsByAbort setup (run setup events) event }
 {}

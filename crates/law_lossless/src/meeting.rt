@@ -26,8 +26,10 @@ ghost use Rattle.law_lossless.specs.Once.{IsAt, NoneExpired, SendsOnce};
 /// for what is due among it, makes no plain event by which something is sent again, and then none
 /// has expired either. Calls of the user that send are left out, as its user makes none.
 pub fn nothing_is_sent_twice()
-    ensures { (rows : List Row) (most : ℕ) (calls later : List Call) (now : ℕ) → most ≤ most_ends → AllByRecursion (IsAt now) later →
-        NoneExpired now (stack_after (empty_stack rows most) calls) → SendsOnce now (stack_after (empty_stack rows most) calls) later }
+    ensures { (rows : List Row) (most : ℕ) (calls later : List Call) (now : ℕ) → most ≤ most_ends
+        → AllByRecursion (IsAt now) later →
+        NoneExpired now (stack_after (empty_stack rows most) calls)
+        → SendsOnce now (stack_after (empty_stack rows most) calls) later }
 {}
 
 /// Where two stacks hold the ends of a link that are in step, and each session was given fewer than
@@ -48,6 +50,7 @@ pub fn stacks_deliver()
 pub fn meeting_is_met()
     ensures { (s : Stacks) × (up : IsUp storm_setup (run storm_setup (storm_starts ++ At A (Give (1 ∷ [])) ∷ [])) 0 0)
         × AreInStep storm_setup (run storm_setup (storm_starts ++ At A (Give (1 ∷ [])) ∷ [])) 0 0 up
-        × ((e : End) → Holds storm_setup (run storm_setup (storm_starts ++ At A (Give (1 ∷ [])) ∷ [])) 0 e (stack_at s e) (up.session e).state)
+        × ((e : End) → Holds storm_setup (run storm_setup (storm_starts ++ At A (Give (1 ∷ [])) ∷ [])) 0 e
+        (stack_at s e) (up.session e).state)
         × IsWaiting (up.session A).state }
 {}

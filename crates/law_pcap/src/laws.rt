@@ -17,8 +17,12 @@ ghost use Rattle.law_pcap.specs.LineForms.{line_form};
 pub fn files_are_judged_as_their_line_forms()
     ensures stored { (file : List ℕ) → All (λ b. b < 256) file
         → stored_input (line_form file) ≡ record { stored = map stored_packet (packets_of file).list; fault = None } }
-    ensures output { (name keys file : List ℕ) → All (λ b. b < 256) file → length file ≤ most_capture → length (line_form file) ≤ most_capture
-        → (answer (codes "check" ∷ codes "--pcap" ∷ name ∷ []) keys file).output ≡ (answer (codes "check" ∷ name ∷ []) keys (line_form file)).output }
-    ensures whole { (name keys file : List ℕ) → All (λ b. b < 256) file → length file ≤ most_capture → length (line_form file) ≤ most_capture → (packets_of file).fault ≡ None
-        → answer (codes "check" ∷ codes "--pcap" ∷ name ∷ []) keys file ≡ answer (codes "check" ∷ name ∷ []) keys (line_form file) }
+    ensures output { (name keys file : List ℕ) → All (λ b. b < 256) file → length file ≤ most_capture
+        → length (line_form file) ≤ most_capture
+        → (answer (codes "check" ∷ codes "--pcap" ∷ name ∷ []) keys file).output
+        ≡ (answer (codes "check" ∷ name ∷ []) keys (line_form file)).output }
+    ensures whole { (name keys file : List ℕ) → All (λ b. b < 256) file → length file ≤ most_capture
+        → length (line_form file) ≤ most_capture → (packets_of file).fault ≡ None
+        → answer (codes "check" ∷ codes "--pcap" ∷ name ∷ []) keys file
+        ≡ answer (codes "check" ∷ name ∷ []) keys (line_form file) }
 {}

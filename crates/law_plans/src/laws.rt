@@ -15,7 +15,8 @@ ghost use Rattle.book_plans.specs.declared.finding.Finding.TheVariants as findin
 ghost use Rattle.book_plans.specs.Differences.{differences, is_alike};
 ghost use Rattle.book_plans.specs.Findings.{accepting_in, findings};
 ghost use Rattle.book_plans.specs.Margins.{IsOrdered};
-ghost use Rattle.book_plans.specs.Ways.{accepting_obstacle, changed_row, fitting_accepting, fitting_sending, sending_in, sending_obstacle};
+ghost use Rattle.book_plans.specs.Ways.{accepting_obstacle, changed_row, fitting_accepting, fitting_sending};
+ghost use Rattle.book_plans.specs.Ways.{sending_in, sending_obstacle};
 ghost use Rattle.book_scope_plan.specs.CalendarTexts.{row_numbered};
 ghost use Rattle.book_scope_plan.specs.FindingTexts.{Facing, facing_at};
 ghost use Rattle.book_scope_plan.specs.Reconfiguring.{is_timeless, switch_span};
@@ -29,11 +30,13 @@ pub fn sending_ways_mend()
     ensures at_a { (a b : List Row) (pair : Pair) (plan : Plan) (n : ℕ) (r : Row) (l : Lifetime)
         → 1 ≤ n → slice_get a (n - 1) ≡ Some r → IsValid a → AllByRecursion (IsGapOrRow A n) (findings a b pair plan)
         → sending_obstacle (record { rows = a; others = b; pair = pair; plan = plan }) n r l ≡ None
-        → IsValid (changed_row (sending_in l) n 1 a) × (lint_rows (changed_row (sending_in l) n 1 a) b pair plan ≡ answer.Aligned) }
+        → IsValid (changed_row (sending_in l) n 1 a) × (lint_rows (changed_row (sending_in l) n 1 a) b pair plan
+        ≡ answer.Aligned) }
     ensures at_b { (a b : List Row) (pair : Pair) (plan : Plan) (n : ℕ) (r : Row) (l : Lifetime)
         → 1 ≤ n → slice_get b (n - 1) ≡ Some r → IsValid b → AllByRecursion (IsGapOrRow B n) (findings a b pair plan)
         → sending_obstacle (record { rows = b; others = a; pair = mirrored pair; plan = plan }) n r l ≡ None
-        → IsValid (changed_row (sending_in l) n 1 b) × (lint_rows a (changed_row (sending_in l) n 1 b) pair plan ≡ answer.Aligned) }
+        → IsValid (changed_row (sending_in l) n 1 b) × (lint_rows a (changed_row (sending_in l) n 1 b) pair plan
+        ≡ answer.Aligned) }
 {}
 
 /// Where each finding on a plan is on one row of an end, and a row of the other end that takes what it sends has
@@ -45,13 +48,15 @@ pub fn accepting_ways_mend()
         → AllByRecursion (IsOfRow A n) (findings a b pair plan) → accepts_from pair r o ≡ true
         → accepting_obstacle b m o (fitting_accepting plan.lead plan.lag r o) ≡ None
         → IsValid (changed_row (accepting_in (fitting_accepting plan.lead plan.lag r o)) m 1 b)
-        × (lint_rows a (changed_row (accepting_in (fitting_accepting plan.lead plan.lag r o)) m 1 b) pair plan ≡ answer.Aligned) }
+        × (lint_rows a (changed_row (accepting_in (fitting_accepting plan.lead plan.lag r o)) m 1 b) pair plan
+        ≡ answer.Aligned) }
     ensures at_a { (a b : List Row) (pair : Pair) (plan : Plan) (n m : ℕ) (r o : Row)
         → 1 ≤ n → slice_get b (n - 1) ≡ Some r → IsOrdered r → 1 ≤ m → slice_get a (m - 1) ≡ Some o → IsValid a
         → AllByRecursion (IsOfRow B n) (findings a b pair plan) → accepts_from (mirrored pair) r o ≡ true
         → accepting_obstacle a m o (fitting_accepting plan.lead plan.lag r o) ≡ None
         → IsValid (changed_row (accepting_in (fitting_accepting plan.lead plan.lag r o)) m 1 a)
-        × (lint_rows (changed_row (accepting_in (fitting_accepting plan.lead plan.lag r o)) m 1 a) b pair plan ≡ answer.Aligned) }
+        × (lint_rows (changed_row (accepting_in (fitting_accepting plan.lead plan.lag r o)) m 1 a) b pair plan
+        ≡ answer.Aligned) }
 {}
 
 /// Where a plan has one finding, the way out that the text of that finding calls `set` mends it: of a row that isn't
@@ -78,20 +83,23 @@ pub fn told_ways_mend()
         → IsMended (changed_at e (sending_in l) n f) }
 {}
 
-/// Where a plan has no finding but that two rows of an end, which have no lifetimes, aren't taken for long enough, then
-/// at each of the times between which the text says to reconfigure that end from one of them to the other, the judgement
-/// is `Aligned` where the end sends with the one from FROM until that time, and from then on until TO with the other.
+/// Where a plan has no finding but that two rows of an end, which have no lifetimes, aren't taken for long enough,
+/// then at each of the times between which the text says to reconfigure that end from one of them to the other, the
+/// judgement is `Aligned` where the end sends with the one from FROM until that time, and from then on until TO with
+/// the other.
 pub fn reconfigured_ends_are_aligned()
     ensures there { (f : Facing) (e : End) (n m time : ℕ) (r o : Row) (s : Lifetime)
         → 1 ≤ n → n < m → f.plan.to ≤ greatest_time
         → findings f.node.rows f.other.rows f.pair f.plan ≡ finding.ShortAccept e n ∷ finding.ShortAccept e m ∷ []
         → row_numbered (facing_at e f).node.rows n ≡ Some r → row_numbered (facing_at e f).node.rows m ≡ Some o
         → is_timeless (facing_at e f).pair r ≡ true → is_timeless (facing_at e f).pair o ≡ true
-        → switch_span (facing_at e f) r o ≡ Some s → s.first ≤ time → time ≤ s.last → IsAligned (switched_at e n m time f) }
+        → switch_span (facing_at e f) r o ≡ Some s → s.first ≤ time → time ≤ s.last
+        → IsAligned (switched_at e n m time f) }
     ensures back { (f : Facing) (e : End) (n m time : ℕ) (r o : Row) (s : Lifetime)
         → 1 ≤ n → n < m → f.plan.to ≤ greatest_time
         → findings f.node.rows f.other.rows f.pair f.plan ≡ finding.ShortAccept e n ∷ finding.ShortAccept e m ∷ []
         → row_numbered (facing_at e f).node.rows n ≡ Some r → row_numbered (facing_at e f).node.rows m ≡ Some o
         → is_timeless (facing_at e f).pair r ≡ true → is_timeless (facing_at e f).pair o ≡ true
-        → switch_span (facing_at e f) o r ≡ Some s → s.first ≤ time → time ≤ s.last → IsAligned (switched_at e m n time f) }
+        → switch_span (facing_at e f) o r ≡ Some s → s.first ≤ time → time ≤ s.last
+        → IsAligned (switched_at e m n time f) }
 {}

@@ -12,7 +12,8 @@ ghost use Rattle.law_scripts.specs.Timed.{IsTimedScript};
 /// What a link file says is a script whose numbers and lengths are in their ranges, with a shared key
 /// exactly where it stands alone.
 pub fn files_say_scripts()
-    ensures ranges { (keys : KeysFrom) (text : List ℕ) (script : Script) → script_of keys text ≡ Ok script → IsScript script }
+    ensures ranges { (keys : KeysFrom) (text : List ℕ) (script : Script) → script_of keys text ≡ Ok script
+        → IsScript script }
     ensures shared { (keys : KeysFrom) (text : List ℕ) (script : Script) → script_of keys text ≡ Ok script
         → keys_by script.shared ≡ keys }
 {}

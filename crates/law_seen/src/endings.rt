@@ -12,5 +12,6 @@ ghost use Rattle.law_seen.specs.Endings.{EndsOnlySo};
 /// segment resets it, or where its user had closed it. Where no forgery is counted, a reset comes
 /// only after the partner's abort, and the last only after the partner was closed too.
 pub fn ends_only_so()
-    ensures { (setup : Setup) (events : List Event) (event : Event) → SetupFits setup → AllByRecursion EventFits events → EventFits event → EndsOnlySo setup (run setup events) event }
+    ensures { (setup : Setup) (events : List Event) (event : Event) → SetupFits setup → AllByRecursion EventFits events
+        → EventFits event → EndsOnlySo setup (run setup events) event }
 {}

@@ -8,5 +8,6 @@ ghost use Rattle.law_link.specs.Laws.{SetupFits, TablesFit};
 /// time passes the check at the session that it is addressed to, and no send within the plan's times lacks
 /// a key: in each run of at most 32,768 events over these tables, as the plan says how clocks differ.
 pub fn aligned_carries()
-    ensures { (plan : Plan) (setup : Setup) → SetupFits setup → TablesFit setup → IsAligned plan setup → CarriesEveryRun plan setup }
+    ensures { (plan : Plan) (setup : Setup) → SetupFits setup → TablesFit setup → IsAligned plan setup
+        → CarriesEveryRun plan setup }
 {}

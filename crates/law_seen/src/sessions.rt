@@ -11,7 +11,8 @@ ghost use Rattle.law_link.specs.Laws.{SetupFits, EventFits};
 /// Prefix, end of stream and acknowledgement hold of each session in which no forgery is counted, whatever
 /// is forged in others: of those of the same end and of those of the other, its partner among them.
 pub fn session_by_session()
-    ensures { (setup : Setup) (events : List Event) → SetupFits setup → AllByRecursion EventFits events → SessionBySession (run setup events) }
+    ensures { (setup : Setup) (events : List Event) → SetupFits setup → AllByRecursion EventFits events
+        → SessionBySession (run setup events) }
 {}
 
 /// Where no forgery is counted at all, none is counted in any session.

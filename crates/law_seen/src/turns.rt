@@ -15,7 +15,8 @@ ghost use Rattle.law_seen.specs.Turning.{HasCurrent, MaySendWith, SendsUnder, Ta
 /// ends prefer the new key, as from the start of its lifetimes on, and each heard one segment of the
 /// other, both send under it.
 pub fn rollover_takes_place()
-    ensures { (setup : Setup) (events : List Event) (e : End) → SetupFits setup → AllByRecursion EventFits events → TakesPlace setup (run setup events) e }
+    ensures { (setup : Setup) (events : List Event) (e : End) → SetupFits setup → AllByRecursion EventFits events
+        → TakesPlace setup (run setup events) e }
 {}
 
 /// Where both tables have a newest row for the pair, and these meet, the other end asks for it from its start on:
@@ -27,5 +28,6 @@ pub fn newest_is_asked_for()
 
 /// An end sends under its current row's key while it may, and that stays its current row.
 pub fn current_key_is_sent_with()
-    ensures { (setup : Setup) (w : World) (e : End) (q : Numbered) → HasCurrent w e q.number → MaySendWith setup w e q → SendsUnder setup w e q }
+    ensures { (setup : Setup) (w : World) (e : End) (q : Numbered) → HasCurrent w e q.number → MaySendWith setup w e q
+        → SendsUnder setup w e q }
 {}

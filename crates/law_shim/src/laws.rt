@@ -10,7 +10,8 @@ ghost use Rattle.book_shim.specs.Leaving.{Sealed, outbound, send_sealed};
 ghost use Rattle.book_segments.specs.Spelling.{AreBytes, Fits};
 ghost use Rattle.book_shim.specs.Arriving.{Opened, inbound, take_in};
 ghost use Rattle.law_shim.specs.Origins.{ComesOut, IsMet, IsOriginal};
-ghost use Rattle.law_shim.specs.Worlds.{Side, Event, World, Leaves, Arrives, pair_at, kept_at, step, run, was_made, IsBytewise};
+ghost use Rattle.law_shim.specs.Worlds.{Side, Event, World, Leaves, Arrives, pair_at, kept_at, step, run, was_made};
+ghost use Rattle.law_shim.specs.Worlds.IsBytewise;
 
 /// A datagram that is refused, on its way out or in, changes nothing.
 pub fn refused_changes_nothing()
@@ -26,7 +27,8 @@ pub fn refused_changes_nothing()
 /// same two initial sequence numbers); unless it is a forgery. Where both rows cover options, those that
 /// fitted come too, but for the maximum segment size of a SYN.
 pub fn authentic()
-    ensures { (pair : Pair) (events : List Event) (at : Side) (here : Setting) (bytes : List ℕ) (t : Opened) → IsBytewise events → AreBytes bytes
+    ensures { (pair : Pair) (events : List Event) (at : Side) (here : Setting) (bytes : List ℕ) (t : Opened)
+        → IsBytewise events → AreBytes bytes
         → inbound here (pair_at pair at) (kept_at (run pair events) at) bytes ≡ Ok t
         → was_made at t.passed (run pair events).made ≡ true → IsOriginal pair events here at t }
 {}
@@ -43,10 +45,15 @@ pub fn opened_is_sealed()
 /// passed in its connection, one which answers no SYN given up: the guards of both ends have the same two. One
 /// that answers a SYN given up is late, and leaves the connection in use.
 pub fn both_know_the_numbers()
-    ensures sealed_so { (here : Setting) (pair : Pair) (kept : Kept) (d : Segment) (m : Sealed) → send_sealed here pair kept d ≡ Ok m → has SYN d ≡ true → has ACK d ≡ true
+    ensures sealed_so { (here : Setting) (pair : Pair) (kept : Kept) (d : Segment) (m : Sealed)
+        → send_sealed here pair kept d ≡ Ok m → has SYN d ≡ true → has ACK d ≡ true
         → m.kept.isns ≡ Some (record { own = d.sequence; peer = answered_isn d }) }
-    ensures joined_so { (here : Setting) (pair : Pair) (kept : Kept) (d : Segment) (t : Opened) → take_in here pair kept d ≡ Ok t → has SYN d ≡ true → has ACK d ≡ true
-        → is_the_number kept.opening (answered_isn d) ≡ true → t.kept.isns ≡ Some (record { own = answered_isn d; peer = d.sequence }) }
-    ensures anew_so { (here : Setting) (pair : Pair) (kept : Kept) (d : Segment) (t : Opened) → take_in here pair kept d ≡ Ok t → has SYN d ≡ true → has ACK d ≡ true
-        → is_the_number kept.given_up (answered_isn d) ≡ false → kept.settled ≡ false → t.kept.isns ≡ Some (record { own = answered_isn d; peer = d.sequence }) }
+    ensures joined_so { (here : Setting) (pair : Pair) (kept : Kept) (d : Segment) (t : Opened)
+        → take_in here pair kept d ≡ Ok t → has SYN d ≡ true → has ACK d ≡ true
+        → is_the_number kept.opening (answered_isn d) ≡ true → t.kept.isns
+        ≡ Some (record { own = answered_isn d; peer = d.sequence }) }
+    ensures anew_so { (here : Setting) (pair : Pair) (kept : Kept) (d : Segment) (t : Opened)
+        → take_in here pair kept d ≡ Ok t → has SYN d ≡ true → has ACK d ≡ true
+        → is_the_number kept.given_up (answered_isn d) ≡ false → kept.settled ≡ false
+        → t.kept.isns ≡ Some (record { own = answered_isn d; peer = d.sequence }) }
 {}

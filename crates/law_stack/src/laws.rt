@@ -27,7 +27,8 @@ pub fn runs_are_a_nodes()
 /// timer's among them, and to the datagrams between its sockets are those of a node's run of these
 /// events by themselves. It holds for every table and all calls that keep its rows.
 pub fn each_is_single()
-    ensures { (pair : Pair) (rows : List Row) (most : ℕ) (calls : List Call) → most ≤ most_ends → keeps_rows calls ≡ true →
+    ensures { (pair : Pair) (rows : List Row) (most : ℕ) (calls : List Call) → most ≤ most_ends
+        → keeps_rows calls ≡ true →
         IsSingle pair rows most calls }
 {}
 
@@ -41,7 +42,8 @@ pub fn nothing_due_is_left()
     ensures quiet { (rows : List Row) (most : ℕ) (calls : List Call) (now : ℕ) → most ≤ most_ends →
         let d = call (Output now) (stack_after (empty_stack rows most) calls) in d.answer ≡ Rests → AreAtRest d.stack }
     ensures timely { (rows : List Row) (most : ℕ) (calls : List Call) (now : ℕ) → most ≤ most_ends →
-        let d = call (Output now) (stack_after (empty_stack rows most) calls) in d.answer ≡ Rests → IsTimely now d.stack }
+        let d = call (Output now) (stack_after (empty_stack rows most) calls) in d.answer ≡ Rests
+        → IsTimely now d.stack }
 {}
 
 /// Whoever sleeps until the deadline that was told misses nothing: asked for what is due at a time

@@ -76,7 +76,8 @@ pub(crate) fn accounts_for(
     requires fits { Fits datagram.now }
     requires option { find_ao datagram.now.area ≡ One (view_ao passing.now.option) }
     ensures { (f : Finding) (m : Made) → IsEntry entry.now m
-        → PassesUnder row.now datagram.now passing.now.passed.number passing.now.passed.context f → result ≡ accounts_for at f m }
+        → PassesUnder row.now datagram.now passing.now.passed.number passing.now.passed.context f
+        → result ≡ accounts_for at f m }
 {
     if entry.maker == at {
         return false;

@@ -1,10 +1,12 @@
 //! Everything that was made, and how many forgeries were counted.
-ghost use Rattle.std.specs.Prelude.{◌≡◌, ◌↔◌, ◌+◌, ◌<◌, ◌≤◌, ℕ, suc, List, [], ◌∷◌, length, Option, Some, None, IsTrue, true, MatchOption, OnOk};
+ghost use Rattle.std.specs.Prelude.{◌≡◌, ◌↔◌, ◌+◌, ◌<◌, ◌≤◌, ℕ, suc, List, [], ◌∷◌, length, Option, Some, None};
+ghost use Rattle.std.specs.Prelude.{IsTrue, true, MatchOption, OnOk};
 ghost use Rattle.book_endpoint.specs.Verdicts.{Finding};
 ghost use Rattle.book_segments.specs.Options.{One, find_ao};
 ghost use Rattle.book_segments.specs.Segments.{bit_of};
 ghost use Rattle.book_segments.specs.Spelling.{AreBytes, Fits};
-ghost use Rattle.book_link.specs.Worlds.{Made, Came, Happening, Making, Coming, segment_named, segments, forged as forged_by, forgeries, was_made};
+ghost use Rattle.book_link.specs.Worlds.{Made, Came, Happening, Making, Coming, segment_named, segments};
+ghost use Rattle.book_link.specs.Worlds.{forged as forged_by, forgeries, was_made};
 ghost use Rattle.tcp_options.specs.Views.{view_ao};
 ghost use Rattle.link_log.specs.Entries.{IsEntry, IsMade, PassesUnder};
 ghost use Rattle.link_log.specs.Numbers.{AreLinked};
@@ -96,7 +98,8 @@ impl Log {
     ) -> u32
         requires room { HasRoom self.old }
         requires few { made_count self.old < 4294967295 }
-        ensures stands { (history : List Happening) (m : Made) → StandsLog self.old history → IsMade maker number row.now context bytes m
+        ensures stands { (history : List Happening) (m : Made) → StandsLog self.old history
+            → IsMade maker number row.now context bytes m
             → m.name ≡ suc (segments history) → StandsLog self.new (Making m ∷ history) }
         ensures name { result ≡ made_count self.old + 1 }
         ensures made { made_count self.new ≡ made_count self.old + 1 }
@@ -132,7 +135,8 @@ impl Log {
     /// The segment of this name; none where no segment has it.
     pub fn segment(&self, name: u32) -> Option<&Entry>
         ensures { (history : List Happening) → StandsLog self.now history
-            → MatchOption result (segment_named name history ≡ None) (λ k. (m : Made) × (segment_named name history ≡ Some m) × IsEntry k.now m) }
+            → MatchOption result (segment_named name history ≡ None)
+            (λ k. (m : Made) × (segment_named name history ≡ Some m) × IsEntry k.now m) }
     {
         if name == 0 {
             return None;
@@ -166,7 +170,8 @@ impl Log {
         requires fits { Fits datagram.now }
         requires option { find_ao datagram.now.area ≡ One (view_ao passing.now.option) }
         ensures { (history : List Happening) (f : Finding) → StandsLog self.now history
-            → PassesUnder row.now datagram.now passing.now.passed.number passing.now.passed.context f → result ≡ was_made at f history }
+            → PassesUnder row.now datagram.now passing.now.passed.number passing.now.passed.context f
+            → result ≡ was_made at f history }
     {
         let kept = self.kept.as_slice();
         let number = sought(passing.passed.number, datagram);
@@ -193,7 +198,8 @@ impl Log {
         requires fits { Fits datagram.now }
         requires option { find_ao datagram.now.area ≡ One (view_ao passing.now.option) }
         ensures { (history : List Happening) (f : Finding) → StandsLog self.now history
-            → PassesUnder row.now datagram.now passing.now.passed.number passing.now.passed.context f → IsTrue result → true ≡ was_made at f history }
+            → PassesUnder row.now datagram.now passing.now.passed.number passing.now.passed.context f → IsTrue result
+            → true ≡ was_made at f history }
     {
         match self.segment(name) {
             None => false,
@@ -219,7 +225,8 @@ impl Log {
         requires fits { Fits datagram.now }
         requires option { find_ao datagram.now.area ≡ One (view_ao passing.now.option) }
         ensures { (history : List Happening) (f : Finding) → StandsLog self.now history
-            → PassesUnder row.now datagram.now passing.now.passed.number passing.now.passed.context f → result ≡ was_made at f history }
+            → PassesUnder row.now datagram.now passing.now.passed.number passing.now.passed.context f
+            → result ≡ was_made at f history }
     {
         match name {
             None => self.was_made(at, datagram, row, passing),
@@ -257,7 +264,8 @@ impl Log {
     /// forgeries are counted.
     pub fn count(&mut self, forged: bool)
         requires { forgery_count self.old < 4294967295 }
-        ensures stands { (history : List Happening) (r : Came) → StandsLog self.old history → forged_by r.at r.passed history ≡ bit_of forged
+        ensures stands { (history : List Happening) (r : Came) → StandsLog self.old history
+            → forged_by r.at r.passed history ≡ bit_of forged
             → StandsLog self.new (Coming r ∷ history) }
         ensures made { made_count self.new ≡ made_count self.old }
         ensures most { forgery_count self.new ≤ forgery_count self.old + 1 }

@@ -3,7 +3,8 @@ ghost use Rattle.std.specs.Prelude.{◌≡◌, ◌++◌, ◌∷◌, [], ℕ, Lis
 ghost use Rattle.book_base.specs.Hexadecimal.{hex_of};
 ghost use Rattle.book_lines.specs.Texts.{spaced};
 ghost use Rattle.book_link.specs.Outcomes as book;
-ghost use Rattle.book_link.specs.Reports.{end_mark, flags_text, hex_or_none, lines_from, number_text, outcome_line, outcome_texts};
+ghost use Rattle.book_link.specs.Reports.{end_mark, flags_text, hex_or_none, lines_from, number_text, outcome_line};
+ghost use Rattle.book_link.specs.Reports.outcome_texts;
 ghost use Rattle.link_report.specs.Outcomes.{AreShown, Shows};
 
 use crate::arrival::push_answer;
@@ -83,7 +84,8 @@ pub(crate) fn push_known(out: &mut Vec<u8>, number: Option<u64>) -> Result<(), A
 /// Puts the name of a segment, its flags and its number behind `out`.
 fn push_name(out: &mut Vec<u8>, name: u32, made: &Made) -> Result<(), AllocError>
     ensures { OnOk result (out.new.items ≡ out.old.items
-        ++ spaced (codes "sent" ∷ decimal name ∷ flags_text made.now.flags ∷ codes "seq" ∷ decimal made.now.number ∷ [])) }
+        ++ spaced (codes "sent" ∷ decimal name ∷ flags_text made.now.flags ∷ codes "seq" ∷ decimal made.now.number
+        ∷ [])) }
 {
     push_field(out, b"sent", u64::from(name))?;
     push_text(out, flags_word(made.flags))?;
@@ -94,7 +96,8 @@ fn push_name(out: &mut Vec<u8>, name: u32, made: &Made) -> Result<(), AllocError
 /// of each word.
 pub fn push_details(out: &mut Vec<u8>, made: &Made) -> Result<(), AllocError>
     ensures { OnOk result (out.new.items ≡ out.old.items
-        ++ spaced (codes "ack" ∷ number_text made.now.ack ∷ codes "len" ∷ decimal made.now.payload ∷ codes "key" ∷ decimal made.now.sending.key_id
+        ++ spaced (codes "ack" ∷ number_text made.now.ack ∷ codes "len" ∷ decimal made.now.payload ∷ codes "key"
+        ∷ decimal made.now.sending.key_id
         ∷ codes "next" ∷ decimal made.now.sending.rnext ∷ [])) }
 {
     push_text(out, b"ack")?;
@@ -108,7 +111,8 @@ pub fn push_details(out: &mut Vec<u8>, made: &Made) -> Result<(), AllocError>
 fn push_made(out: &mut Vec<u8>, name: u32, made: &Made) -> Result<(), AllocError>
     ensures { OnOk result (out.new.items ≡ out.old.items
         ++ spaced (codes "sent" ∷ decimal name ∷ flags_text made.now.flags ∷ codes "seq" ∷ decimal made.now.number
-        ∷ codes "ack" ∷ number_text made.now.ack ∷ codes "len" ∷ decimal made.now.payload ∷ codes "key" ∷ decimal made.now.sending.key_id
+        ∷ codes "ack" ∷ number_text made.now.ack ∷ codes "len" ∷ decimal made.now.payload ∷ codes "key"
+        ∷ decimal made.now.sending.key_id
         ∷ codes "next" ∷ decimal made.now.sending.rnext ∷ [])) }
 {
     push_name(out, name, made)?;
@@ -163,7 +167,8 @@ fn push_added(out: &mut Vec<u8>, row: u8) -> Result<(), AllocError>
 
 /// Puts the words of an outcome behind `out`, a space in front of each.
 fn push_words(out: &mut Vec<u8>, outcome: &Outcome) -> Result<(), AllocError>
-    ensures { OnOk result ((is : book.Outcome) → Shows outcome.now is → out.new.items ≡ out.old.items ++ spaced (outcome_texts is)) }
+    ensures { OnOk result ((is : book.Outcome) → Shows outcome.now is
+        → out.new.items ≡ out.old.items ++ spaced (outcome_texts is)) }
 {
     match outcome {
         Outcome::Done => push_text(out, b"ok"),
@@ -189,7 +194,8 @@ fn push_words(out: &mut Vec<u8>, outcome: &Outcome) -> Result<(), AllocError>
 
 /// Puts the line of an outcome behind `out`; `n` is the number of its event, from 1.
 fn push_line(out: &mut Vec<u8>, n: u64, outcome: &Outcome) -> Result<(), AllocError>
-    ensures { OnOk result ((is : book.Outcome) → Shows outcome.now is → out.new.items ≡ out.old.items ++ outcome_line n is) }
+    ensures { OnOk result ((is : book.Outcome) → Shows outcome.now is
+        → out.new.items ≡ out.old.items ++ outcome_line n is) }
 {
     push_decimal(out, n)?;
     push_words(out, outcome)?;
@@ -200,7 +206,8 @@ fn push_line(out: &mut Vec<u8>, n: u64, outcome: &Outcome) -> Result<(), AllocEr
 /// Puts a line for each outcome behind `out`, numbered from 1. Out of memory a part of them may stand
 /// there.
 pub fn push_outcomes(out: &mut Vec<u8>, outcomes: &[Outcome]) -> Result<(), AllocError>
-    ensures { OnOk result ((told : List book.Outcome) → AreShown outcomes.now told → out.new.items ≡ out.old.items ++ lines_from 1 told) }
+    ensures { OnOk result ((told : List book.Outcome) → AreShown outcomes.now told
+        → out.new.items ≡ out.old.items ++ lines_from 1 told) }
 {
     for (index, outcome) in outcomes.iter().enumerate() {
         push_line(out, index as u64 + 1, outcome)?;

@@ -3,7 +3,8 @@ ghost use Rattle.std.specs.Prelude.{◌≡◌, ◌++◌, ◌∷◌, [], map, rev
 ghost use Rattle.book_base.specs.declared.end.End.TheVariants.{A, B};
 ghost use Rattle.book_lines.specs.Texts.{end_text, line_text, spaced};
 ghost use Rattle.book_link.specs.Reports.{number_text, session_lines, shown_text, summary};
-ghost use Rattle.book_link.specs.Worlds.{LinkSide as EndSide, World, forgeries as count_of_forgeries, segments as count_of_segments};
+ghost use Rattle.book_link.specs.Worlds.{LinkSide as EndSide, World, forgeries as count_of_forgeries};
+ghost use Rattle.book_link.specs.Worlds.segments as count_of_segments;
 ghost use Rattle.link_report.specs.Lines.{facts_line, kept_lines};
 ghost use Rattle.link_side.specs.Sides.{StandsSide, kept_facts};
 
@@ -29,7 +30,8 @@ fn push_shown(out: &mut Vec<u8>, end_shown: bool) -> Result<(), AllocError>
 /// numbers behind `out`.
 fn push_identity(out: &mut Vec<u8>, end: End, index: u64, session: &Ended) -> Result<(), AllocError>
     ensures { OnOk result (out.new.items ≡ out.old.items
-        ++ spaced (end_text end ∷ decimal index ∷ codes "isn" ∷ decimal session.now.isn ∷ codes "peer" ∷ number_text session.now.peer_isn ∷ [])) }
+        ++ spaced (end_text end ∷ decimal index ∷ codes "isn" ∷ decimal session.now.isn ∷ codes "peer"
+        ∷ number_text session.now.peer_isn ∷ [])) }
 {
     push_end(out, end)?;
     push_number(out, index)?;
@@ -41,7 +43,8 @@ fn push_identity(out: &mut Vec<u8>, end: End, index: u64, session: &Ended) -> Re
 /// Puts how many bytes passed through a session, and whether its end was shown, behind `out`.
 fn push_flow(out: &mut Vec<u8>, session: &Ended) -> Result<(), AllocError>
     ensures { OnOk result (out.new.items ≡ out.old.items
-        ++ spaced (codes "given" ∷ decimal session.now.given ∷ codes "delivered" ∷ decimal session.now.delivered ∷ shown_text session.now.end_shown ∷ [])) }
+        ++ spaced (codes "given" ∷ decimal session.now.given ∷ codes "delivered" ∷ decimal session.now.delivered
+        ∷ shown_text session.now.end_shown ∷ [])) }
 {
     push_field(out, b"given", session.given)?;
     push_field(out, b"delivered", session.delivered)?;
@@ -78,7 +81,8 @@ fn push_dropped(out: &mut Vec<u8>, end: End, dropped: &[Ended]) -> Result<(), Al
 
 /// Puts the lines of an end's sessions behind `out`, the oldest first.
 fn push_sessions(out: &mut Vec<u8>, end: End, side: &Side) -> Result<(), AllocError>
-    ensures { OnOk result ((m : EndSide) → StandsSide side.now m → out.new.items ≡ out.old.items ++ session_lines end m.sessions) }
+    ensures { OnOk result ((m : EndSide) → StandsSide side.now m
+        → out.new.items ≡ out.old.items ++ session_lines end m.sessions) }
 {
     match side.live() {
         None => Ok(()),
@@ -114,7 +118,8 @@ pub fn push_summary(
     made: u32,
     forgeries: u32,
 ) -> Result<(), AllocError>
-    ensures { OnOk result ((w : World) → StandsSide a.now w.a → StandsSide b.now w.b → made ≡ count_of_segments w.history
+    ensures { OnOk result ((w : World) → StandsSide a.now w.a → StandsSide b.now w.b
+        → made ≡ count_of_segments w.history
         → forgeries ≡ count_of_forgeries w.history → out.new.items ≡ out.old.items ++ summary w) }
 {
     push_sessions(out, End::A, a)?;

@@ -4,7 +4,9 @@ ghost use Rattle.book_link.specs.declared.event.Action.{Action as OneAction};
 ghost use Rattle.book_lines.specs.declared.line_kind.LineKind.TheVariants as line_kind;
 ghost use Rattle.book_lines.specs.Words.{word_as};
 ghost use Rattle.text_lines.specs.Readings.{gives, Tells};
-ghost use Rattle.book_cmd_link.specs.LinkEvents.{event_of_end, event_of_number, start_of, give_of, fill_of, inject_of, fixing_of, alter_of, dump_of, event_named, link_event_of};
+ghost use Rattle.book_cmd_link.specs.LinkEvents.{event_of_end, event_of_number, start_of, give_of, fill_of};
+ghost use Rattle.book_cmd_link.specs.LinkEvents.{inject_of, fixing_of, alter_of, dump_of, event_named};
+ghost use Rattle.book_cmd_link.specs.LinkEvents.link_event_of;
 ghost use Rattle.link_script.specs.Made.{MakesOf};
 ghost use Rattle.link_script.specs.Names.{name_text};
 
@@ -43,7 +45,8 @@ fn numbered<F: FnOnce(u64) -> Action>(
     made: F,
 ) -> Result<Event, LineKind>
     requires { (n : ℕ) → n ≤ high → F.pre made n }
-    ensures { (meant : ℕ → OneAction) → MakesOf (F.post made) meant → result ≡ event_of_number meant low high words.old }
+    ensures { (meant : ℕ → OneAction) → MakesOf (F.post made) meant
+        → result ≡ event_of_number meant low high words.old }
 {
     let end = words.end()?;
     let number = words.number(low, high)?;

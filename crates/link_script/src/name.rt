@@ -74,7 +74,8 @@ impl Name {
 
     /// The name that the word is, if it is one.
     pub(crate) fn read(word: &[u8]) -> Option<Name>
-        ensures { MatchOption result ((n : OneName) → bytes_eq word.now (name_text n) ≡ false) (λ n. bytes_eq word.now (name_text n) ≡ true) }
+        ensures { MatchOption result ((n : OneName) → bytes_eq word.now (name_text n) ≡ false)
+            (λ n. bytes_eq word.now (name_text n) ≡ true) }
     {
         first_named(&NAMES, word)
     }
@@ -82,7 +83,8 @@ impl Name {
 
 /// The first of the names that the word is.
 fn first_named(names: &[Name], word: &[u8]) -> Option<Name>
-    ensures { MatchOption result (All (λ n. bytes_eq word.now (name_text n) ≡ false) names.now) (λ n. bytes_eq word.now (name_text n) ≡ true) }
+    ensures { MatchOption result (All (λ n. bytes_eq word.now (name_text n) ≡ false) names.now)
+        (λ n. bytes_eq word.now (name_text n) ≡ true) }
 {
     names.iter().copied().find(|name| word == name.text())
 }

@@ -6,7 +6,8 @@ ghost use Rattle.book_link.specs.declared.event.Event.TheVariants.{At};
 ghost use Rattle.book_cmd_link.specs.LinkFiles.{keys_by, script_of};
 ghost use Rattle.link_script.specs.Names.{name_text};
 ghost use Rattle.law_scripts.specs.Scripts.{IsScript};
-ghost use Rattle.law_scripts.specs.Printed.{event_words, fixing_text, key_lines, lines_text, socket_words, text_of, title_words};
+ghost use Rattle.law_scripts.specs.Printed.{event_words, fixing_text, key_lines, lines_text, socket_words, text_of};
+ghost use Rattle.law_scripts.specs.Printed.title_words;
 
 use super::name::Name;
 use super::row_texts::push_row;
@@ -26,7 +27,8 @@ fn push_alone(out: &mut Vec<u8>, name: Name, end: End) -> Result<(), AllocError>
 
 /// The words of an event of an end and a number.
 fn push_numbered(out: &mut Vec<u8>, name: Name, end: End, number: u64) -> Result<(), AllocError>
-    ensures { OnOk result (out.new.items ≡ out.old.items ++ (name_text name ++ 32 ∷ (end_text end ++ 32 ∷ decimal number))) }
+    ensures { OnOk result
+        (out.new.items ≡ out.old.items ++ (name_text name ++ 32 ∷ (end_text end ++ 32 ∷ decimal number))) }
 {
     push_alone(out, name, end)?;
     push_number(out, number)
@@ -34,7 +36,8 @@ fn push_numbered(out: &mut Vec<u8>, name: Name, end: End, number: u64) -> Result
 
 /// The words of an event that brings bytes to an end.
 fn push_load(out: &mut Vec<u8>, name: Name, end: End, bytes: &Bytes) -> Result<(), AllocError>
-    ensures { OnOk result (out.new.items ≡ out.old.items ++ (name_text name ++ 32 ∷ (end_text end ++ 32 ∷ hex_of bytes.now))) }
+    ensures { OnOk result
+        (out.new.items ≡ out.old.items ++ (name_text name ++ 32 ∷ (end_text end ++ 32 ∷ hex_of bytes.now))) }
 {
     push_alone(out, name, end)?;
     push_bytes(out, bytes.as_slice())
@@ -134,7 +137,8 @@ fn push_socket_line(
 
 #[tactic(auto, unfolding(law_scripts::specs::Printed::key_lines, law_scripts::specs::Printed::lines_text))]
 fn push_key(out: &mut Vec<u8>, shared: Option<&SharedKey>) -> Result<(), AllocError>
-    ensures { OnOk result (out.new.items ≡ out.old.items ++ lines_text (key_lines (option_map (λ k. k.now) shared.entry))) }
+    ensures { OnOk result (out.new.items ≡ out.old.items ++ lines_text
+        (key_lines (option_map (λ k. k.now) shared.entry))) }
 {
     if let Some(key) = shared {
         out.extend_from_slice(b"shared")?;

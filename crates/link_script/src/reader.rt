@@ -3,7 +3,8 @@ ghost use Rattle.std.specs.Prelude.{◌≡◌, IfOk};
 ghost use Rattle.book_lines.specs.declared.line_kind.LineKind.TheVariants as line_kind;
 ghost use Rattle.text_lines.specs.Readings.{Answers, Tells};
 ghost use Rattle.book_cmd_link.specs.LinkEvents.{link_event_of};
-ghost use Rattle.book_cmd_link.specs.LinkFiles.{event_at, events_of, is_shared, key_in, keys_by, line_in, script_of, shared_key_of};
+ghost use Rattle.book_cmd_link.specs.LinkFiles.{event_at, events_of, is_shared, key_in, keys_by, line_in, script_of};
+ghost use Rattle.book_cmd_link.specs.LinkFiles.shared_key_of;
 ghost use Rattle.law_scripts.specs.Left.{leaves};
 ghost use Rattle.law_scripts.specs.Scripts.{IsScript};
 
@@ -69,7 +70,8 @@ pub(crate) fn is_shared(words: &LineWords) -> bool
 
 /// The event of a line.
 fn event_line(alloc: Global, mut line: Saying) -> Result<Event, TextFault>
-    ensures { Answers result (event_at link_event_of (record { number = line.entry.number; words = line.entry.words })) }
+    ensures { Answers result
+        (event_at link_event_of (record { number = line.entry.number; words = line.entry.words })) }
 {
     if is_shared(&line.words) {
         return Err(TextFault::Line(line.number, LineKind::Shared));

@@ -32,7 +32,8 @@ fn name_of(direction: Direction) -> &'static [u8]
 
 /// The first and the last second of a lifetime.
 fn push_lifetime(out: &mut Vec<u8>, lifetime: Lifetime) -> Result<(), AllocError>
-    ensures { OnOk result (out.new.items ≡ out.old.items ++ spaced (decimal lifetime.first ∷ decimal lifetime.last ∷ [])) }
+    ensures { OnOk result (out.new.items ≡ out.old.items ++ spaced
+        (decimal lifetime.first ∷ decimal lifetime.last ∷ [])) }
 {
     push_number(out, lifetime.first)?;
     push_number(out, lifetime.last)

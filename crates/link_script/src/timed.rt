@@ -47,7 +47,8 @@ fn timed_event(alloc: Global, words: &mut LineWords) -> Result<TimedEvent, Refus
 
 /// The event of a line.
 fn timed_line(alloc: Global, mut line: Saying) -> Result<TimedEvent, TextFault>
-    ensures { Answers result (event_at timed_event_of (record { number = line.entry.number; words = line.entry.words })) }
+    ensures { Answers result
+        (event_at timed_event_of (record { number = line.entry.number; words = line.entry.words })) }
 {
     if is_shared(&line.words) {
         return Err(TextFault::Line(line.number, LineKind::Shared));

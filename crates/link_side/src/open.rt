@@ -20,7 +20,12 @@ impl Side {
         requires fits { FitsEnd self.old.table.rows endpoint }
         ensures pair { sockets_of self.new ≡ sockets_of self.old }
         ensures begun { OnOk result ((m : EndSide) (s : EndState) → StandsSide self.old m → Stands endpoint s
-            → StandsSide self.new (record { clock = m.clock; rows = m.rows; sessions = record { state = s; end_shown = false } ∷ m.sessions })) }
+            → StandsSide self.new
+            (record {
+              clock = m.clock;
+              rows = m.rows;
+              sessions = record { state = s; end_shown = false } ∷ m.sessions;
+            })) }
         ensures same { OnErr result ((m : EndSide) → StandsSide self.old m → StandsSide self.new m) }
     {
         match &self.live {

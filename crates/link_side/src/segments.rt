@@ -45,7 +45,8 @@ fn make<L: Ledger>(
     requires fits { FitsEnd table.now.rows endpoint.old }
     requires room { 1500 ≤ length out.old }
     ensures emits { (s : EndState) → Stands endpoint.old s
-        → Emits s endpoint.new out.old out.new result (made_by transmission table.now.rows (pair_at_end endpoint.old) now s) }
+        → Emits s endpoint.new out.old out.new result (made_by transmission table.now.rows (pair_at_end endpoint.old)
+        now s) }
     ensures short { length_sent (Some result) ≤ 1500 }
     ensures pair { pair_at_end endpoint.new ≡ pair_at_end endpoint.old }
     ensures fits { FitsEnd table.now.rows endpoint.new }
@@ -78,7 +79,8 @@ impl Side {
     ) -> Option<Emission>
         requires room { 1500 ≤ length out.old }
         ensures pair { sockets_of self.new ≡ sockets_of self.old }
-        ensures sent { (setup : Setup) (w : World) (e : End) → pair_of setup e ≡ sockets_of self.old → StandsSide self.old (side_of w e)
+        ensures sent { (setup : Setup) (w : World) (e : End) → pair_of setup e ≡ sockets_of self.old
+            → StandsSide self.old (side_of w e)
             → HasSent w (step setup w (At e (sending transmission))) transmission e self.new out.old out.new result }
         ensures short { length_sent result ≤ 1500 }
         ensures steps { steps.new ≤ steps.old + 1 }
@@ -102,7 +104,8 @@ impl Side {
     /// Bytes that are no datagram, by this fault, come to the live session. `None` exactly where there
     /// is no session; and nothing changes.
     pub fn come_unread(&self, fault: DatagramFault) -> Option<Arrived<'_>>
-        ensures { (setup : Setup) (w : World) (e : End) (bytes : List ℕ) → reading bytes ≡ Bad fault → pair_of setup e ≡ sockets_of self.now → StandsSide self.now (side_of w e)
+        ensures { (setup : Setup) (w : World) (e : End) (bytes : List ℕ) → reading bytes ≡ Bad fault
+            → pair_of setup e ≡ sockets_of self.now → StandsSide self.now (side_of w e)
             → HasCome w (on_live w e (come bytes (view_of setup w e))) e self.now bytes result }
     {
         match &self.live {
@@ -123,7 +126,8 @@ impl Side {
         steps: &mut Steps<L>,
     ) -> Option<Arrived<'a>>
         ensures pair { sockets_of self.new ≡ sockets_of self.old }
-        ensures come { (setup : Setup) (w : World) (e : End) (bytes : List ℕ) → reading bytes ≡ Read datagram.now → pair_of setup e ≡ sockets_of self.old → StandsSide self.old (side_of w e)
+        ensures come { (setup : Setup) (w : World) (e : End) (bytes : List ℕ) → reading bytes ≡ Read datagram.now
+            → pair_of setup e ≡ sockets_of self.old → StandsSide self.old (side_of w e)
             → HasCome w (on_live w e (come bytes (view_of setup w e))) e self.new bytes result }
         ensures option { IfSome result (λ told. TellsOption datagram.now told) }
         ensures steps { steps.new ≤ steps.old + 66 }

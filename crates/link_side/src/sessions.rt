@@ -57,7 +57,8 @@ impl Live {
 
     /// What the report says of the session beside its phase.
     pub fn ended(&self) -> Ended
-        ensures { (s : Session) → Stands (endpoint_of self.now) s.state → is_end_shown self.now ≡ s.end_shown → kept_facts result ≡ facts_of s }
+        ensures { (s : Session) → Stands (endpoint_of self.now) s.state → is_end_shown self.now ≡ s.end_shown
+            → kept_facts result ≡ facts_of s }
     {
         Ended {
             isn: self.endpoint.isn(),

@@ -60,7 +60,8 @@ fn is_forged(
     requires high { ForSome passed (λ p. p.passed.row ≤ length table.now.rows) }
     requires option { ForSome passed (λ p. find_ao datagram.now.area ≡ One (view_ao p.option)) }
     ensures { (pair : Pair) (history : List Happening) (found : Option Finding) → StandsLog log.now history
-        → TellsPassed table.now.rows pair (Read datagram.now) (found_of passed.entry) found → forged at found history ≡ bit_of result }
+        → TellsPassed table.now.rows pair (Read datagram.now) (found_of passed.entry) found
+        → forged at found history ≡ bit_of result }
 {
     match passed {
         None => false,
@@ -74,7 +75,8 @@ fn is_forged(
 /// Bytes that are no datagram, by this fault, come to the live session of the end: they are no
 /// forgery. None where there is no session.
 fn unread(side: &Side, fault: DatagramFault) -> Option<Answered>
-    ensures { (setup : Setup) (w : World) (at : End) (bytes : List ℕ) → reading bytes ≡ Bad fault → pair_of setup at ≡ sockets_of side.now → StandsSide side.now (side_of w at)
+    ensures { (setup : Setup) (w : World) (at : End) (bytes : List ℕ) → reading bytes ≡ Bad fault
+        → pair_of setup at ≡ sockets_of side.now → StandsSide side.now (side_of w at)
         → HasReceived w (by_bytes at bytes setup w) at side.now result }
 {
     match side.come_unread(fault) {
@@ -101,7 +103,8 @@ fn come<L: Ledger>(
     requires part { 0 < blank.parts }
     requires at { ∥ AreOfEnd at side.old log.now ∥₁ }
     ensures pair { sockets_of side.new ≡ sockets_of side.old }
-    ensures received { (setup : Setup) (w : World) → StandsAt at side.old log.now setup w → HasReceived w (by_bytes at bytes.now setup w) at side.new result }
+    ensures received { (setup : Setup) (w : World) → StandsAt at side.old log.now setup w
+        → HasReceived w (by_bytes at bytes.now setup w) at side.new result }
 {
     let datagram = match read_datagram(bytes) {
         Ok(datagram) => datagram,
@@ -125,7 +128,8 @@ fn count(log: &mut Log, answered: Option<Answered>) -> Outcome
     requires { forgery_count log.old < 4294967295 }
     ensures made { made_count log.new ≡ made_count log.old }
     ensures most { forgery_count log.new ≤ forgery_count log.old + 1 }
-    ensures stands { (history after : List Happening) → StandsLog log.old history → Counts answered history after → StandsLog log.new after }
+    ensures stands { (history after : List Happening) → StandsLog log.old history → Counts answered history after
+        → StandsLog log.new after }
     ensures outcome { result ≡ outcome_come answered }
 {
     match answered {
@@ -180,7 +184,8 @@ pub(crate) fn alter(
 ) -> Result<Outcome, AllocError>
     requires at { ∥ AreOfEnd at side.old log.old ∥₁ }
     requires forged { forgery_count log.old < 4294967295 }
-    ensures { Acts at side.old side.new log.old log.new (by_event (At at (Alter name change.place change.mask change.fixing))) result }
+    ensures { Acts at side.old side.new log.old log.new (by_event
+        (At at (Alter name change.place change.mask change.fixing))) result }
 {
     match log.segment(name) {
         None => Ok(Outcome::NoSegment),

@@ -24,7 +24,8 @@ fn most_content(log: &Log, event: &Event) -> usize
 
 /// Room for the bytes that the outcome of an event carries, taken before anything changes.
 pub(crate) fn room_for(log: &Log, alloc: Global, event: &Event) -> Result<Vec<u8>, AllocError>
-    ensures { IfOk result (λ room. (history : List Happening) → StandsLog log.now history → length room.items ≡ most_content event.now history) }
+    ensures { IfOk result (λ room. (history : List Happening) → StandsLog log.now history
+        → length room.items ≡ most_content event.now history) }
 {
     let mut room = Vec::new(alloc);
     room.resize(most_content(log, event), 0)?;

@@ -47,7 +47,8 @@ fn send_counted<L: Ledger>(
     requires part { 0 < blank.parts }
     requires room { 1500 ≤ length out.old }
     ensures pair { sockets_of side.new ≡ sockets_of side.old }
-    ensures sent { (setup : Setup) (w : World) (e : End) → pair_of setup e ≡ sockets_of side.old → StandsSide side.old (side_of w e)
+    ensures sent { (setup : Setup) (w : World) (e : End) → pair_of setup e ≡ sockets_of side.old
+        → StandsSide side.old (side_of w e)
         → HasSent w (step setup w (At e (sending transmission))) transmission e side.new out.old out.new result }
     ensures short { length_sent result ≤ 1500 }
 {

@@ -20,7 +20,8 @@ pub struct Setup {
 /// Takes the table of the node with this address out of the tables; an empty one where no node has it.
 pub(crate) fn take_table(alloc: Global, tables: &mut Tables, address: Address) -> Table
     ensures taken { result.rows ≡ rows_at tables.old address }
-    ensures others { (other : Place) → same_address address other ≡ false → rows_at tables.new other ≡ rows_at tables.old other }
+    ensures others { (other : Place) → same_address address other ≡ false
+        → rows_at tables.new other ≡ rows_at tables.old other }
 {
     match tables.table_mut(&address) {
         Some(table) => std::mem::replace(table, Table::empty(alloc, address)),

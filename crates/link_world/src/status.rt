@@ -30,7 +30,8 @@ impl World {
     /// The end's clock, in seconds since 1970, at most LATEST.
     pub fn reading(&self, end: End) -> u64
         ensures latest { result ≤ greatest_time }
-        ensures reads { (setup : Link) (events : List Happening) → StandsFor self.now setup events → result ≡ (side (run setup events) end).clock }
+        ensures reads { (setup : Link) (events : List Happening) → StandsFor self.now setup events
+            → result ≡ (side (run setup events) end).clock }
     {
         self.side(end).clock()
     }
@@ -49,7 +50,8 @@ impl World {
 
     /// How many sessions the end has had, with the live one.
     pub fn sessions(&self, end: End) -> usize
-        ensures { (setup : Link) (events : List Happening) → StandsFor self.now setup events → result ≡ length (side (run setup events) end).sessions }
+        ensures { (setup : Link) (events : List Happening) → StandsFor self.now setup events
+            → result ≡ length (side (run setup events) end).sessions }
     {
         let side = self.side(end);
         match side.live() {
@@ -61,7 +63,8 @@ impl World {
     /// How far the end's live session has sent; none exactly where the end has no session, or its phase
     /// is Closed.
     pub fn front(&self, end: End) -> Option<Front>
-        ensures { (setup : Link) (events : List Happening) → StandsFor self.now setup events → option_map front_of result ≡ front_at (run setup events) end }
+        ensures { (setup : Link) (events : List Happening) → StandsFor self.now setup events
+            → option_map front_of result ≡ front_at (run setup events) end }
     {
         match self.live(end) {
             None => None,
@@ -78,7 +81,8 @@ impl World {
     /// How many segments were made. Each has the next name from 1.
     pub fn made(&self) -> u32
         ensures count { result ≡ segments_made self.now }
-        ensures segments { (setup : Link) (events : List Happening) → StandsFor self.now setup events → result ≡ segments (run setup events).history }
+        ensures segments { (setup : Link) (events : List Happening) → StandsFor self.now setup events
+            → result ≡ segments (run setup events).history }
     {
         self.log.made()
     }
@@ -87,14 +91,16 @@ impl World {
     pub fn maker(&self, name: u32) -> End
         requires low { 1 ≤ name }
         requires high { name ≤ segments_made self.now }
-        ensures { (setup : Link) (events : List Happening) → StandsFor self.now setup events → MadeBy result (segment_named name (run setup events).history) }
+        ensures { (setup : Link) (events : List Happening) → StandsFor self.now setup events
+            → MadeBy result (segment_named name (run setup events).history) }
     {
         self.log.maker(name)
     }
 
     /// How many arrivals passed the check although the other end hadn't made what passed.
     pub fn forgeries(&self) -> u32
-        ensures { (setup : Link) (events : List Happening) → StandsFor self.now setup events → result ≡ forgeries (run setup events).history }
+        ensures { (setup : Link) (events : List Happening) → StandsFor self.now setup events
+            → result ≡ forgeries (run setup events).history }
     {
         self.log.forgeries()
     }

@@ -16,7 +16,8 @@ use std::alloc::{AllocError, Global};
 
 /// Shows the segment of this name: a copy of its bytes.
 pub(crate) fn dump(log: &Log, alloc: Global, name: u32) -> Result<Outcome, AllocError>
-    ensures { IfOk result (λ told. (history : List Entry) → StandsLog log.now history → Shows told (image_of (segment_named name history))) }
+    ensures { IfOk result (λ told. (history : List Entry) → StandsLog log.now history
+        → Shows told (image_of (segment_named name history))) }
 {
     match log.segment(name) {
         None => Ok(Outcome::NoSegment),
@@ -32,7 +33,8 @@ impl World {
 
     /// The summary: a line for each session of each end, and the counts of segments and forgeries.
     pub fn summary(&self, alloc: Global) -> Result<Bytes, AllocError>
-        ensures { IfOk result (λ text. (setup : Link) (events : List Happening) → StandsFor self.now setup events → text ≡ summary (run setup events)) }
+        ensures { IfOk result (λ text. (setup : Link) (events : List Happening) → StandsFor self.now setup events
+            → text ≡ summary (run setup events)) }
     {
         let mut out = Vec::new(alloc);
         let sides = &self.sides;
@@ -43,7 +45,8 @@ impl World {
     /// The report of the run: a line for each outcome, a line for each session of each end, and the
     /// counts of segments and forgeries.
     pub fn report(&self, alloc: Global) -> Result<Bytes, AllocError>
-        ensures { IfOk result (λ text. (setup : Link) (events : List Happening) → StandsFor self.now setup events → text ≡ report setup events) }
+        ensures { IfOk result (λ text. (setup : Link) (events : List Happening) → StandsFor self.now setup events
+            → text ≡ report setup events) }
     {
         let mut out = Vec::new(alloc);
         push_outcomes(&mut out, self.outcomes.as_slice())?;

@@ -93,7 +93,8 @@ impl World {
             → TablesFit setup → length (events ++ event.now ∷ []) ≤ few_events
             → GetsThrough setup (events ++ event.now ∷ [])) }
         ensures steps { OnOk result (steps_taken self.new ≡ steps_taken self.old + 1) }
-        ensures same { OnErr result ((setup : Link) (events : List Happening) → StandsFor self.old setup events → StandsFor self.new setup events) }
+        ensures same { OnErr result ((setup : Link) (events : List Happening) → StandsFor self.old setup events
+            → StandsFor self.new setup events) }
         ensures unstepped { OnErr result (steps_taken self.new ≡ steps_taken self.old) }
     {
         see_event(event);
@@ -109,7 +110,8 @@ impl World {
     /// The outcome of the last event. There was one.
     pub fn outcome(&self) -> &Outcome
         requires { 0 < steps_taken self.now }
-        ensures { (setup : Link) (events : List Happening) (event : Happening) → StandsFor self.now setup (events ++ event ∷ [])
+        ensures { (setup : Link) (events : List Happening) (event : Happening)
+            → StandsFor self.now setup (events ++ event ∷ [])
             → Shows result.now (step setup (run setup events) event).outcome }
     {
         &self.outcomes[self.outcomes.len() - 1]

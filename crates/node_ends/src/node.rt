@@ -94,7 +94,8 @@ impl Node {
         requires family { IsOneFamily pair.local.address pair.remote.address }
         ensures refused { IsRefused result (refusal self.old pair) }
         ensures unchanged { OnErr result (self.new ≡ self.old) }
-        ensures added { OnOk result ((e : OneEnd) × Adds self.old self.new pair e × Begins table.now.rows pair (connected pair isn) e) }
+        ensures added { OnOk result ((e : OneEnd) × Adds self.old self.new pair e
+            × Begins table.now.rows pair (connected pair isn) e) }
     {
         self.admit(&pair)?;
         let endpoint = Endpoint::connect(alloc, table, pair, isn)?;
@@ -114,7 +115,8 @@ impl Node {
         requires family { IsOneFamily pair.local.address pair.remote.address }
         ensures refused { IsRefused result (refusal self.old pair) }
         ensures unchanged { OnErr result (self.new ≡ self.old) }
-        ensures added { OnOk result ((e : OneEnd) × Adds self.old self.new pair e × Begins table.now.rows pair (listening pair isn) e) }
+        ensures added { OnOk result ((e : OneEnd) × Adds self.old self.new pair e
+            × Begins table.now.rows pair (listening pair isn) e) }
     {
         self.admit(&pair)?;
         let endpoint = Endpoint::listen(alloc, table, pair, isn)?;
@@ -135,7 +137,8 @@ impl Node {
         requires family { IsOneFamily pair.local.address pair.remote.address }
         ensures refused { IsRefused result (refusal self.old pair) }
         ensures unchanged { OnErr result (self.new ≡ self.old) }
-        ensures added { OnOk result ((e : OneEnd) × Adds self.old self.new pair e × Begins table.now.rows pair (started pair own_isn peer_isn) e) }
+        ensures added { OnOk result ((e : OneEnd) × Adds self.old self.new pair e
+            × Begins table.now.rows pair (started pair own_isn peer_isn) e) }
     {
         self.admit(&pair)?;
         let endpoint = Endpoint::start(alloc, table, pair, own_isn, peer_isn)?;

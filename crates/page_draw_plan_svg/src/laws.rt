@@ -17,7 +17,8 @@ ghost use Rattle.book_plans.specs.declared.finding.Finding.{Finding};
 /// there are: so a picture has the bars of the text in order, of the same rows and of what they do, and no other.
 pub fn pictures_are_of_the_text()
     ensures { (tables : List Table) (plan : Plan) (said : List (Said Pair))
-        → summary_line (length said) (good_plans tables plan said) ++ flat_map (plan_line_text plan) (drawings_lines tables plan said)
+        → summary_line (length said) (good_plans tables plan said)
+        ++ flat_map (plan_line_text plan) (drawings_lines tables plan said)
         ≡ drawings_text tables plan said }
 {}
 

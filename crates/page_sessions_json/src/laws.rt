@@ -12,9 +12,12 @@ ghost use Rattle.book_scope_plan.specs.AdminNames.{KeyFile};
 /// The JSON has as many entries as the table has sessions, where all are listed, and as many of a node as it has rows.
 /// Each session is foreign or it isn't.
 pub fn each_session_and_row_has_an_entry()
-    ensures sessions { (tables : List Table) (t : SessionTable) → length (map (session_json t.uses) (listed_sessions true tables t)) ≡ t.sessions }
-    ensures foreign { (tables : List Table) (t : SessionTable) → length (own_sessions tables t) + length (foreign_sessions tables t) ≡ t.sessions }
-    ensures rows { (keys : KeyFile) (e : Evidence) (t : Table) (n : ℕ) (rows : List Row) → length (rows_json keys e t n rows) ≡ length rows }
+    ensures sessions { (tables : List Table) (t : SessionTable)
+        → length (map (session_json t.uses) (listed_sessions true tables t)) ≡ t.sessions }
+    ensures foreign { (tables : List Table) (t : SessionTable)
+        → length (own_sessions tables t) + length (foreign_sessions tables t) ≡ t.sessions }
+    ensures rows { (keys : KeyFile) (e : Evidence) (t : Table) (n : ℕ) (rows : List Row)
+        → length (rows_json keys e t n rows) ≡ length rows }
 {}
 
 /// No table is written in front of a packet where none is asked for.

@@ -2,7 +2,8 @@
 ghost use Rattle.std.specs.Prelude.{◌≡◌, ◌++◌, ℕ, true, false, List, [], IfOk, IsSome, IfSome, Some, None};
 ghost use Rattle.ao_base.specs.Outside.{Side, told};
 ghost use Rattle.pcap_file.specs.declared.packets.PacketStep.TheVariants.{Packet};
-ghost use Rattle.pcap_file.specs.Reads.{Reading, Steps, GoesOn, has_whole, header_length, wanted_step, Exactly, Walks, IsQuiet, IsPacketOrEnd};
+ghost use Rattle.pcap_file.specs.Reads.{Reading, Steps, GoesOn, has_whole, header_length, wanted_step, Exactly};
+ghost use Rattle.pcap_file.specs.Reads.{Walks, IsQuiet, IsPacketOrEnd};
 
 use crate::head::HEAD;
 use crate::records::{
@@ -53,15 +54,24 @@ impl Model for Packets {
 
     ghost Value = { Reading };
 
-    ghost view = { λ r. record { kept = r.buffer.kept; taken = r.handed + length r.buffer.kept; count = r.count; head = r.head; over = r.over; packet = cond r.shown (Some (record { number = r.count; seconds = r.seconds; datagram = r.buffer.piece })) None } };
+    ghost view = { λ r. record {
+      kept = r.buffer.kept;
+      taken = r.handed + length r.buffer.kept;
+      count = r.count;
+      head = r.head;
+      over = r.over;
+      packet = cond r.shown (Some (record { number = r.count; seconds = r.seconds; datagram = r.buffer.piece })) None;
+    } };
 
-    ghost invariant = { λ r. (r.handed + header_length r.head ≤ most_capture) × (16 * r.count ≤ r.handed) × (r.buffer.size ≡ 327696) };
+    ghost invariant = { λ r. (r.handed + header_length r.head ≤ most_capture) × (16 * r.count ≤ r.handed)
+        × (r.buffer.size ≡ 327696) };
 }
 
 impl Packets {
     /// A reader of packets. It takes all its memory here.
     pub fn new(alloc: Global) -> Result<Packets, AllocError>
-        ensures { IfOk result (λ r. r ≡ record { kept = []; taken = 0; count = 0; head = None; over = false; packet = None }) }
+        ensures { IfOk result
+            (λ r. r ≡ record { kept = []; taken = 0; count = 0; head = None; over = false; packet = None }) }
     {
         let buffer = Buffer::new(alloc, RECORD + MOST_KEPT + SPARE)?;
         Ok(Packets {
@@ -88,10 +98,14 @@ impl Packets {
     /// are kept after any call.
     pub fn next<S: Source>(&mut self, src: &mut S) -> PacketStep
         requires { self.old.over ≡ false }
-        ensures steps { (given : List ℕ) × Steps self.old self.new (S.side src.old) (S.side src.new) given result × GoesOn self.old self.new (self.old.kept ++ given) result }
-        ensures exact { (left : List ℕ) → (S.side src.old).bytes ≡ Some left → Exactly (wanted_step self.old left) result }
-        ensures walks { (left : List ℕ) → (S.side src.old).bytes ≡ Some left → Walks self.old self.new left (told (S.side src.new).bytes) result }
-        ensures quiet { (left : List ℕ) → IsQuiet self.old (S.side src.old) (S.side src.new) left → IsPacketOrEnd result }
+        ensures steps { (given : List ℕ) × Steps self.old self.new (S.side src.old) (S.side src.new) given result
+            × GoesOn self.old self.new (self.old.kept ++ given) result }
+        ensures exact { (left : List ℕ) → (S.side src.old).bytes ≡ Some left
+            → Exactly (wanted_step self.old left) result }
+        ensures walks { (left : List ℕ) → (S.side src.old).bytes ≡ Some left
+            → Walks self.old self.new left (told (S.side src.new).bytes) result }
+        ensures quiet { (left : List ℕ) → IsQuiet self.old (S.side src.old) (S.side src.new) left
+            → IsPacketOrEnd result }
     {
         self.advance(src)
     }

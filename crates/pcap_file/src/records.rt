@@ -1,5 +1,6 @@
 //! The header of a file and the record of a packet, as far as they are in a buffer.
-ghost use Rattle.std.specs.Prelude.{◌≡◌, ◌==◌, ◌++◌, ◌+◌, if◌then◌else◌, ℕ, ◌≤◌, true, false, List, length, take, drop, slice_range, MatchOption};
+ghost use Rattle.std.specs.Prelude.{◌≡◌, ◌==◌, ◌++◌, ◌+◌, if◌then◌else◌, ℕ, ◌≤◌, true, false, List, length, take};
+ghost use Rattle.std.specs.Prelude.{drop, slice_range, MatchOption};
 ghost use Rattle.ao_base.specs.Outside.{Side};
 ghost use Rattle.book_base.specs.Fronts.{Leads};
 ghost use Rattle.book_pcap.specs.Packets.{datagram_of, is_ip, record_at};
@@ -84,7 +85,8 @@ pub(crate) fn find_record<S: Source>(buffer: &mut Buffer, src: &mut S, order: By
 pub(crate) fn kept_record(kept: &[u8], order: ByteOrder) -> Option<(u32, usize)>
     ensures { MatchOption result (is_whole (record_at order kept.now) ≡ false) (λ found.
         (16 + found.1 ≤ length kept.now) × ((left : List ℕ) → record_at order (kept.now ++ left)
-        ≡ Leads (record { seconds = found.0; bytes = take found.1 (drop 16 kept.now) }) (drop (16 + found.1) kept.now ++ left))) }
+        ≡ Leads (record { seconds = found.0; bytes = take found.1 (drop 16 kept.now) })
+        (drop (16 + found.1) kept.now ++ left))) }
 {
     if kept.len() < RECORD {
         return None;

@@ -1,7 +1,8 @@
 //! A connection, an address that no node has, and two times, as they are written.
 ghost use Rattle.std.specs.Prelude.{◌≡◌, ◌++◌, OnOk, option_map};
 ghost use Rattle.book_scope_plan.specs.FindingTexts.{times_text};
-ghost use Rattle.book_scope_plan.specs.PlanTexts.{connection_line, missing_text, missing_words, pair_words, usual_socket_text};
+ghost use Rattle.book_scope_plan.specs.PlanTexts.{connection_line, missing_text, missing_words, pair_words};
+ghost use Rattle.book_scope_plan.specs.PlanTexts.usual_socket_text;
 
 use ao_base::push_decimal;
 use book_base::{Address, Pair, Socket};
@@ -55,7 +56,8 @@ pub fn push_missing(
     node: Option<&Table>,
     address: &Address,
 ) -> Result<(), AllocError>
-    ensures { OnOk result (out.new.items ≡ out.old.items ++ missing_text (option_map (λ t. t.now) node.entry) address.now) }
+    ensures { OnOk result (out.new.items ≡ out.old.items ++ missing_text (option_map (λ t. t.now) node.entry)
+        address.now) }
 {
     match node {
         Some(_) => Ok(()),

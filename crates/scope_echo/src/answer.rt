@@ -32,7 +32,8 @@ fn echo_report(
     requires family { are_two_of_a_family setup.a.address setup.b.address ≡ true }
     requires events { All CanHappen events.now }
     requires few { length events.now ≤ most_lines }
-    ensures { IfOk result (λ r. echoed keys text.now events.now (reported (setup_of setup) events.now) ≡ done r.is_amiss r.text) }
+    ensures { IfOk result (λ r. echoed keys text.now events.now (reported (setup_of setup) events.now)
+        ≡ done r.is_amiss r.text) }
 {
     let report = report_of(alloc, setup, events)?;
     let text = print_echo(alloc, keys, text, events, report.text.as_slice())?;

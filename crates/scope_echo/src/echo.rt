@@ -46,7 +46,8 @@ fn push_echo(
     told: &[u8],
     event: &Event,
 ) -> Result<(), AllocError>
-    ensures { OnOk result (out.new.items ≡ out.old.items ++ (event_echo number line.now ++ (told.now ++ clock_echo event.now))) }
+    ensures { OnOk result
+        (out.new.items ≡ out.old.items ++ (event_echo number line.now ++ (told.now ++ clock_echo event.now))) }
 {
     push_event(out, number, line)?;
     out.extend_from_slice(told)?;
@@ -61,7 +62,8 @@ fn push_echoes(
     events: &[Event],
     report: &mut ReportLines,
 ) -> Result<(), AllocError>
-    ensures { OnOk result (out.new.items ≡ out.old.items ++ echoes_text (echoes_from 1 lines.old events.now report.old)) }
+    ensures { OnOk result (out.new.items ≡ out.old.items ++ echoes_text
+        (echoes_from 1 lines.old events.now report.old)) }
 {
     for (index, event) in events.iter().enumerate() {
         match lines.next() {

@@ -3,7 +3,9 @@ ghost use Rattle.std.specs.Prelude.{◌≡◌, ◌++◌, [], OnOk, codes, is_som
 ghost use Rattle.toml.specs.Data.{get_member};
 ghost use Rattle.toml.specs.View.{table_view};
 ghost use Rattle.book_keys.specs.Columns.{is_absent_or, is_admin, is_word, kdf_of, options_flag_of, text_of};
-ghost use Rattle.book_scope_keys.specs.RowFindings.{alg_id_findings, algorithm_findings, algorithm_wanted, field_at, field_unless, id_findings, is_algorithm_with, name_findings, port_findings, protocol_findings};
+ghost use Rattle.book_scope_keys.specs.RowFindings.{alg_id_findings, algorithm_findings, algorithm_wanted, field_at};
+ghost use Rattle.book_scope_keys.specs.RowFindings.{field_unless, id_findings, is_algorithm_with, name_findings};
+ghost use Rattle.book_scope_keys.specs.RowFindings.{port_findings, protocol_findings};
 
 use crate::field::push_column;
 use book_base::Algorithm;
@@ -21,7 +23,8 @@ fn push_id(
     key: &str,
     table: &Table,
 ) -> Result<(), AllocError>
-    ensures { OnOk result (findings.new.items ≡ findings.old.items ++ id_findings place.now key.now (table_view table.now)) }
+    ensures { OnOk result (findings.new.items ≡ findings.old.items
+        ++ id_findings place.now key.now (table_view table.now)) }
 {
     push_column(
         findings,
@@ -61,7 +64,8 @@ pub(crate) fn push_protocol(
     place: &KeyPlace,
     table: &Table,
 ) -> Result<(), AllocError>
-    ensures { OnOk result (findings.new.items ≡ findings.old.items ++ protocol_findings place.now (table_view table.now)) }
+    ensures { OnOk result (findings.new.items ≡ findings.old.items
+        ++ protocol_findings place.now (table_view table.now)) }
 {
     push_column(
         findings,
@@ -125,7 +129,8 @@ fn push_alg_id(
     kdf: Option<Algorithm>,
     table: &Table,
 ) -> Result<(), AllocError>
-    ensures { OnOk result (findings.new.items ≡ findings.old.items ++ alg_id_findings place.now kdf (table_view table.now)) }
+    ensures { OnOk result (findings.new.items ≡ findings.old.items
+        ++ alg_id_findings place.now kdf (table_view table.now)) }
 {
     let mut wanted = Vec::new(*findings.allocator());
     push_algorithm_wanted(&mut wanted, kdf)?;
@@ -146,7 +151,8 @@ pub(crate) fn push_algorithm(
     place: &KeyPlace,
     table: &Table,
 ) -> Result<(), AllocError>
-    ensures { OnOk result (findings.new.items ≡ findings.old.items ++ algorithm_findings place.now (table_view table.now)) }
+    ensures { OnOk result (findings.new.items ≡ findings.old.items
+        ++ algorithm_findings place.now (table_view table.now)) }
 {
     let kdf = kdf_at(table);
     push_column(
@@ -168,7 +174,8 @@ pub(crate) fn push_port(
     key: &str,
     table: &Table,
 ) -> Result<(), AllocError>
-    ensures { OnOk result (findings.new.items ≡ findings.old.items ++ port_findings place.now key.now (table_view table.now)) }
+    ensures { OnOk result (findings.new.items ≡ findings.old.items
+        ++ port_findings place.now key.now (table_view table.now)) }
 {
     push_column(
         findings,

@@ -53,7 +53,8 @@ pub fn push_misfit(
     value: Option<&Value>,
     wanted: &[u8],
 ) -> Result<(), AllocError>
-    ensures { OnOk result (findings.new.items ≡ findings.old.items ++ finding_at place.now key.now (field_said (option_map (λ v. view v.now) value.entry) [] wanted.now) ∷ []) }
+    ensures { OnOk result (findings.new.items ≡ findings.old.items
+        ++ finding_at place.now key.now (field_said (option_map (λ v. view v.now) value.entry) [] wanted.now) ∷ []) }
 {
     let mut said = Vec::new(*findings.allocator());
     push_field_said(&mut said, value, b"", wanted)?;
@@ -69,7 +70,8 @@ pub fn push_hidden(
     value: Option<&Value>,
     wanted: &[u8],
 ) -> Result<(), AllocError>
-    ensures { OnOk result (findings.new.items ≡ findings.old.items ++ finding_at place.now key.now (hidden_said (option_map (λ v. view v.now) value.entry) wanted.now) ∷ []) }
+    ensures { OnOk result (findings.new.items ≡ findings.old.items
+        ++ finding_at place.now key.now (hidden_said (option_map (λ v. view v.now) value.entry) wanted.now) ∷ []) }
 {
     let mut said = Vec::new(*findings.allocator());
     push_hidden_said(&mut said, value, wanted)?;
@@ -86,7 +88,8 @@ pub fn push_unless(
     hint: &[u8],
     wanted: &[u8],
 ) -> Result<(), AllocError>
-    ensures { OnOk result (findings.new.items ≡ findings.old.items ++ field_unless is_good (field_of field.entry) hint.now wanted.now) }
+    ensures { OnOk result (findings.new.items ≡ findings.old.items
+        ++ field_unless is_good (field_of field.entry) hint.now wanted.now) }
 {
     if is_good {
         return Ok(());
@@ -105,7 +108,8 @@ pub(crate) fn push_column(
     key: &str,
     wanted: &[u8],
 ) -> Result<(), AllocError>
-    ensures { OnOk result (findings.new.items ≡ findings.old.items ++ field_unless is_good (field_at place.now key.now (table_view table.now)) [] wanted.now) }
+    ensures { OnOk result (findings.new.items ≡ findings.old.items
+        ++ field_unless is_good (field_at place.now key.now (table_view table.now)) [] wanted.now) }
 {
     push_unless(findings, is_good, field_at(place, key, table), b"", wanted)
 }
@@ -128,7 +132,8 @@ pub fn push_count(
     count: usize,
     wanted: &[u8],
 ) -> Result<(), AllocError>
-    ensures { OnOk result (findings.new.items ≡ findings.old.items ++ finding_at place.now key.now (count_said count wanted.now) ∷ []) }
+    ensures { OnOk result (findings.new.items ≡ findings.old.items
+        ++ finding_at place.now key.now (count_said count wanted.now) ∷ []) }
 {
     let mut said = Vec::new(*findings.allocator());
     push_count_said(&mut said, count, wanted)?;

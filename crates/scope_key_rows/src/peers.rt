@@ -4,7 +4,8 @@ ghost use Rattle.toml.specs.Data.{array};
 ghost use Rattle.toml.specs.View.{items_view, view};
 ghost use Rattle.book_keys.specs.Rows.{peer_limit};
 ghost use Rattle.book_scope_keys.specs.FieldTexts.{field_said, finding_at};
-ghost use Rattle.book_scope_keys.specs.RowFindings.{address_hint_of, count_said, each_peer_finding, peer_finding, peers_findings, peers_wanted};
+ghost use Rattle.book_scope_keys.specs.RowFindings.{address_hint_of, count_said, each_peer_finding, peer_finding};
+ghost use Rattle.book_scope_keys.specs.RowFindings.{peers_findings, peers_wanted};
 
 use crate::field::{push_count, push_finding, push_misfit};
 use book_keys::PEER_LIMIT;
@@ -19,7 +20,8 @@ const WANTED: &[u8] =
     b"an array of 1 to 16 texts: \"any\", or an address, 192.0.2.1 or 32 hexadecimal digits";
 
 fn push_peer_said(out: &mut Vec<u8>, value: &Value) -> Result<(), AllocError>
-    ensures { OnOk result (out.new.items ≡ out.old.items ++ field_said (Some (view value.now)) (address_hint_of (Some (view value.now))) peers_wanted) }
+    ensures { OnOk result (out.new.items ≡ out.old.items ++ field_said (Some (view value.now))
+        (address_hint_of (Some (view value.now))) peers_wanted) }
 {
     let mut hint = Vec::new(*out.allocator());
     push_address_hint(&mut hint, Some(value))?;
@@ -48,7 +50,8 @@ fn push_each_peer(
     place: &KeyPlace,
     values: &[Value],
 ) -> Result<(), AllocError>
-    ensures { OnOk result (findings.new.items ≡ findings.old.items ++ each_peer_finding place.now (items_view values.now)) }
+    ensures { OnOk result (findings.new.items ≡ findings.old.items
+        ++ each_peer_finding place.now (items_view values.now)) }
 {
     for value in values {
         push_peer(findings, place, value)?;
@@ -68,7 +71,8 @@ fn push_peer_array(
     place: &KeyPlace,
     values: &[Value],
 ) -> Result<(), AllocError>
-    ensures { OnOk result (findings.new.items ≡ findings.old.items ++ peers_findings place.now (Some (array (items_view values.now)))) }
+    ensures { OnOk result (findings.new.items ≡ findings.old.items
+        ++ peers_findings place.now (Some (array (items_view values.now)))) }
 {
     if are_few(values) {
         return push_each_peer(findings, place, values);
@@ -82,7 +86,9 @@ fn push_no_peers(
     place: &KeyPlace,
     value: Option<&Value>,
 ) -> Result<(), AllocError>
-    ensures { OnOk result (findings.new.items ≡ findings.old.items ++ finding_at place.now (codes "Peers") (field_said (option_map (λ v. view v.now) value.entry) [] peers_wanted) ∷ []) }
+    ensures { OnOk result (findings.new.items ≡ findings.old.items
+        ++ finding_at place.now (codes "Peers") (field_said (option_map (λ v. view v.now) value.entry) [] peers_wanted)
+        ∷ []) }
 {
     push_misfit(findings, place, "Peers", value, WANTED)
 }
@@ -94,7 +100,8 @@ pub(crate) fn push_peers(
     place: &KeyPlace,
     value: Option<&Value>,
 ) -> Result<(), AllocError>
-    ensures { OnOk result (findings.new.items ≡ findings.old.items ++ peers_findings place.now (option_map (λ v. view v.now) value.entry)) }
+    ensures { OnOk result (findings.new.items ≡ findings.old.items
+        ++ peers_findings place.now (option_map (λ v. view v.now) value.entry)) }
 {
     match value {
         Some(value) => match value.as_array() {

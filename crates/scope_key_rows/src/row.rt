@@ -21,7 +21,8 @@ fn push_columns(
     place: &KeyPlace,
     table: &Table,
 ) -> Result<(), AllocError>
-    ensures { OnOk result (findings.new.items ≡ findings.old.items ++ column_findings place.now (table_view table.now)) }
+    ensures { OnOk result (findings.new.items ≡ findings.old.items
+        ++ column_findings place.now (table_view table.now)) }
 {
     push_names(findings, place, table)?;
     push_peers(findings, place, member_at(table, "Peers"))?;

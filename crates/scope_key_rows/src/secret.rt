@@ -47,7 +47,8 @@ fn push_text(
     place: &KeyPlace,
     text: &[u8],
 ) -> Result<(), AllocError>
-    ensures { OnOk result (findings.new.items ≡ findings.old.items ++ secret_findings place.now (Some (string text.now))) }
+    ensures { OnOk result (findings.new.items ≡ findings.old.items
+        ++ secret_findings place.now (Some (string text.now))) }
 {
     if is_secret(*findings.allocator(), text)? {
         return Ok(());
@@ -63,7 +64,9 @@ fn push_no_text(
     place: &KeyPlace,
     value: Option<&Value>,
 ) -> Result<(), AllocError>
-    ensures { OnOk result (findings.new.items ≡ findings.old.items ++ finding_at place.now (codes "Key") (hidden_said (option_map (λ v. view v.now) value.entry) secret_wanted) ∷ []) }
+    ensures { OnOk result (findings.new.items ≡ findings.old.items
+        ++ finding_at place.now (codes "Key") (hidden_said (option_map (λ v. view v.now) value.entry) secret_wanted)
+        ∷ []) }
 {
     push_hidden(findings, place, "Key", value, WANTED)
 }
@@ -75,7 +78,8 @@ pub(crate) fn push_secret(
     place: &KeyPlace,
     value: Option<&Value>,
 ) -> Result<(), AllocError>
-    ensures { OnOk result (findings.new.items ≡ findings.old.items ++ secret_findings place.now (option_map (λ v. view v.now) value.entry)) }
+    ensures { OnOk result (findings.new.items ≡ findings.old.items
+        ++ secret_findings place.now (option_map (λ v. view v.now) value.entry)) }
 {
     match value {
         Some(value) => match value.as_str() {

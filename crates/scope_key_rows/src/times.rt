@@ -2,7 +2,8 @@
 ghost use Rattle.std.specs.Prelude.{◌≡◌, ◌++◌, [], OnOk, codes, is_some, option_and_then, option_map};
 ghost use Rattle.toml.specs.View.{table_view, view};
 ghost use Rattle.book_keys.specs.Columns.{direction_of, text_of};
-ghost use Rattle.book_scope_keys.specs.RowFindings.{field_at, field_unless, lifetime_findings, order_findings, term_findings, time_findings, time_hint_of};
+ghost use Rattle.book_scope_keys.specs.RowFindings.{field_at, field_unless, lifetime_findings, order_findings};
+ghost use Rattle.book_scope_keys.specs.RowFindings.{term_findings, time_findings, time_hint_of};
 ghost use Rattle.scope_key_rows.specs.Fields.{field_of};
 
 use crate::field::{Field, field_at, push_column, push_unless};
@@ -32,7 +33,8 @@ fn push_time(
     key: &str,
     table: &Table,
 ) -> Result<(), AllocError>
-    ensures { OnOk result (findings.new.items ≡ findings.old.items ++ time_findings place.now absent key.now (table_view table.now)) }
+    ensures { OnOk result (findings.new.items ≡ findings.old.items
+        ++ time_findings place.now absent key.now (table_view table.now)) }
 {
     let mut hint = Vec::new(*findings.allocator());
     push_hint(&mut hint, member_at(table, key))?;
@@ -54,7 +56,8 @@ fn push_order(
     first: Option<u64>,
     last: Option<u64>,
 ) -> Result<(), AllocError>
-    ensures { OnOk result (findings.new.items ≡ findings.old.items ++ order_findings (field_of end.entry) start.now first last) }
+    ensures { OnOk result (findings.new.items ≡ findings.old.items
+        ++ order_findings (field_of end.entry) start.now first last) }
 {
     let (first, last) = match (first, last) {
         (Some(first), Some(last)) => (first, last),
@@ -82,7 +85,8 @@ fn push_lifetime(
     end: &str,
     table: &Table,
 ) -> Result<(), AllocError>
-    ensures { OnOk result (findings.new.items ≡ findings.old.items ++ lifetime_findings place.now start.now end.now (table_view table.now)) }
+    ensures { OnOk result (findings.new.items ≡ findings.old.items
+        ++ lifetime_findings place.now start.now end.now (table_view table.now)) }
 {
     push_time(findings, place, 0, start, table)?;
     push_time(findings, place, LATEST, end, table)?;

@@ -60,7 +60,8 @@ fn push_key(
     place: &KeyPlace,
     key: &[u8],
 ) -> Result<(), AllocError>
-    ensures { OnOk result (findings.new.items ≡ findings.old.items ++ key_finding (map (λ w. w.now) known.now) place.now key.now) }
+    ensures { OnOk result (findings.new.items ≡ findings.old.items
+        ++ key_finding (map (λ w. w.now) known.now) place.now key.now) }
 {
     if is_known(known, key) {
         return Ok(());
@@ -80,7 +81,8 @@ pub fn push_unknown(
     place: &KeyPlace,
     table: &Table,
 ) -> Result<(), AllocError>
-    ensures { OnOk result (findings.new.items ≡ findings.old.items ++ unknown_findings (map (λ w. w.now) known.now) place.now (keys_in (table_view table.now))) }
+    ensures { OnOk result (findings.new.items ≡ findings.old.items
+        ++ unknown_findings (map (λ w. w.now) known.now) place.now (keys_in (table_view table.now))) }
 {
     for key in table.keys() {
         push_key(findings, known, place, key.as_bytes())?;

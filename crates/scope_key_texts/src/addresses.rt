@@ -31,7 +31,8 @@ fn has_slash(text: &[u8]) -> bool
 }
 
 fn push_written(out: &mut Vec<u8>, bytes: &[u8; 16]) -> Result<(), AllocError>
-    ensures { OnOk result (out.new.items ≡ out.old.items ++ (codes ", which is written \"" ++ (hex_of bytes.now ++ codes "\""))) }
+    ensures { OnOk result
+        (out.new.items ≡ out.old.items ++ (codes ", which is written \"" ++ (hex_of bytes.now ++ codes "\""))) }
 {
     out.extend_from_slice(b", which is written \"")?;
     push_hex(out, bytes.as_slice())?;
@@ -39,7 +40,8 @@ fn push_written(out: &mut Vec<u8>, bytes: &[u8; 16]) -> Result<(), AllocError>
 }
 
 fn push_written_address(out: &mut Vec<u8>, address: Option<&Address>) -> Result<(), AllocError>
-    ensures { OnOk result (out.new.items ≡ out.old.items ++ written_address_hint (option_map (λ a. a.now) address.entry)) }
+    ensures { OnOk result (out.new.items ≡ out.old.items ++ written_address_hint
+        (option_map (λ a. a.now) address.entry)) }
 {
     match address {
         Some(Address::V6(bytes)) => push_written(out, bytes),
@@ -61,7 +63,8 @@ fn push_text_hint(out: &mut Vec<u8>, text: &[u8]) -> Result<(), AllocError>
 /// Puts behind `out` why a value is no address: that it is a prefix, or how a key file writes it. Where memory
 /// runs out a part of it may stand there.
 pub fn push_address_hint(out: &mut Vec<u8>, value: Option<&Value>) -> Result<(), AllocError>
-    ensures { OnOk result (out.new.items ≡ out.old.items ++ address_hint_of (option_map (λ v. view v.now) value.entry)) }
+    ensures { OnOk result (out.new.items ≡ out.old.items ++ address_hint_of
+        (option_map (λ v. view v.now) value.entry)) }
 {
     match value {
         Some(Value::String(text)) => push_text_hint(out, text.as_bytes()),

@@ -2,7 +2,8 @@
 ghost use Rattle.std.specs.Prelude.{◌≡◌, ◌+◌, ◌≤◌, ◌++◌, ◌&&◌, IsTrue, OnOk, length};
 ghost use Rattle.toml_datetime.specs.Parse.{parse_datetime};
 ghost use Rattle.book_keys.specs.Times.{two_digits_at};
-ghost use Rattle.book_scope_keys.specs.Hints.{date_hint, digits_at, form_hint, has_digits_at, has_time_form, part_hint, range_hint, time_hint};
+ghost use Rattle.book_scope_keys.specs.Hints.{date_hint, digits_at, form_hint, has_digits_at, has_time_form};
+ghost use Rattle.book_scope_keys.specs.Hints.{part_hint, range_hint, time_hint};
 
 use crate::moments::{push_moment_hint, read_moment};
 use ao_base::push_decimal;

@@ -1,6 +1,7 @@
 //! Where in the text of a key file a field stands.
 ghost use Rattle.std.specs.Prelude.{◌≡◌, ◌<◌, ◌≤◌, ◌+◌, ◌++◌, ◌∷◌, [], ◌^◌, OnOk, length, option_map};
-ghost use Rattle.book_scope_keys.specs.Places.{finding_place, is_plain_text, key_finding_line, past_byte, place_if, place_past, place_text, plain_place, spot_place, text_place};
+ghost use Rattle.book_scope_keys.specs.Places.{finding_place, is_plain_text, key_finding_line, past_byte, place_if};
+ghost use Rattle.book_scope_keys.specs.Places.{place_past, place_text, plain_place, spot_place, text_place};
 
 use crate::plain::is_bare;
 use crate::spots::{blanks_length, is_spot, line_key, spot_past};

@@ -2,7 +2,8 @@
 ghost use Rattle.std.specs.Prelude.{◌≡◌, ◌==◌, drop, not};
 ghost use Rattle.std.specs.List.{list_all, list_any};
 ghost use Rattle.book_base.specs.Lines.{lines_of};
-ghost use Rattle.book_scope_keys.specs.Places.{begins_with, behind_key, has_three, is_bare, has_no_opening, is_item, is_plain_text, is_plain_key, is_plain_line};
+ghost use Rattle.book_scope_keys.specs.Places.{begins_with, behind_key, has_three, is_bare, has_no_opening, is_item};
+ghost use Rattle.book_scope_keys.specs.Places.{is_plain_text, is_plain_key, is_plain_line};
 
 use crate::spots::{is_header, line_key, line_key_length, without_blanks};
 use ao_base::{next_line, past_line};

@@ -42,7 +42,8 @@ pub fn push_field_said(
     hint: &[u8],
     wanted: &[u8],
 ) -> Result<(), AllocError>
-    ensures { OnOk result (out.new.items ≡ out.old.items ++ field_said (option_map (λ v. view v.now) value.entry) hint.now wanted.now) }
+    ensures { OnOk result (out.new.items ≡ out.old.items ++ field_said (option_map (λ v. view v.now) value.entry)
+        hint.now wanted.now) }
 {
     match value {
         Some(value) => push_given(out, value, hint, wanted),
@@ -67,7 +68,8 @@ pub fn push_hidden_said(
     value: Option<&Value>,
     wanted: &[u8],
 ) -> Result<(), AllocError>
-    ensures { OnOk result (out.new.items ≡ out.old.items ++ hidden_said (option_map (λ v. view v.now) value.entry) wanted.now) }
+    ensures { OnOk result (out.new.items ≡ out.old.items ++ hidden_said (option_map (λ v. view v.now) value.entry)
+        wanted.now) }
 {
     match value {
         Some(value) => push_type_said(out, value, wanted),

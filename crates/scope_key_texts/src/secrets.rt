@@ -1,7 +1,8 @@
 //! What is told of a master key, which is never shown: how long it is, and why it is none.
 ghost use Rattle.std.specs.Prelude.{◌≡◌, ◌++◌, OnOk};
 ghost use Rattle.std.specs.List.{list_all};
-ghost use Rattle.book_scope_keys.specs.Hints.{digits_fault, fault_hint, is_digit_or_colon, is_digit_or_gap, is_hex_digit, is_prefixed, secret_fault, shown_secret, writing_fault};
+ghost use Rattle.book_scope_keys.specs.Hints.{digits_fault, fault_hint, is_digit_or_colon, is_digit_or_gap};
+ghost use Rattle.book_scope_keys.specs.Hints.{is_hex_digit, is_prefixed, secret_fault, shown_secret, writing_fault};
 
 use ao_base::push_decimal;
 use book_scope_keys::SecretFault;

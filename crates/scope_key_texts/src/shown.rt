@@ -61,7 +61,9 @@ fn push_quoted(out: &mut Vec<u8>, text: &[u8]) -> Result<(), AllocError>
 }
 
 fn push_integer(out: &mut Vec<u8>, number: i64) -> Result<(), AllocError>
-    ensures { OnOk result (out.new.items ≡ out.old.items ++ (minus_if (int_lt number (pos 0)) ++ (decimal (unsigned_abs number) ++ codes ", an integer"))) }
+    ensures { OnOk result
+        (out.new.items ≡ out.old.items ++ (minus_if (int_lt number (pos 0))
+        ++ (decimal (unsigned_abs number) ++ codes ", an integer"))) }
 {
     if number < 0 {
         out.extend_from_slice(b"-")?;

@@ -4,7 +4,9 @@ ghost use Rattle.toml.specs.Data.{array};
 ghost use Rattle.toml.specs.View.{items_view, table_view, view};
 ghost use Rattle.book_keys.specs.Rows.{row_limit};
 ghost use Rattle.book_scope_keys.specs.FieldTexts.{finding_at, hidden_said};
-ghost use Rattle.book_scope_keys.specs.FileFindings.{key_place, node_address_findings, node_fields_findings, node_name_findings, rows_findings, rows_findings_from, rows_wanted, used_hint};
+ghost use Rattle.book_scope_keys.specs.FileFindings.{key_place, node_address_findings, node_fields_findings};
+ghost use Rattle.book_scope_keys.specs.FileFindings.{node_name_findings, rows_findings, rows_findings_from};
+ghost use Rattle.book_scope_keys.specs.FileFindings.{rows_wanted, used_hint};
 ghost use Rattle.book_scope_keys.specs.RowFindings.{address_hint_of, count_said, row_findings};
 
 use crate::node::NodeName;
@@ -37,7 +39,8 @@ fn push_name(
     seen: &Seen,
     table: &Table,
 ) -> Result<(), AllocError>
-    ensures { OnOk result (findings.new.items ≡ findings.old.items ++ node_name_findings place.now seen.now.names.items (table_view table.now)) }
+    ensures { OnOk result (findings.new.items ≡ findings.old.items
+        ++ node_name_findings place.now seen.now.names.items (table_view table.now)) }
 {
     push_unless(
         findings,
@@ -53,7 +56,9 @@ fn push_address_said(
     is_used: bool,
     value: Option<&Value>,
 ) -> Result<(), AllocError>
-    ensures { OnOk result (out.new.items ≡ out.old.items ++ (used_hint is_used ++ address_hint_of (option_map (λ v. view v.now) value.entry))) }
+    ensures { OnOk result
+        (out.new.items
+        ≡ out.old.items ++ (used_hint is_used ++ address_hint_of (option_map (λ v. view v.now) value.entry))) }
 {
     out.extend_from_slice(used_hint(is_used))?;
     push_address_hint(out, value)
@@ -66,7 +71,8 @@ fn push_address(
     seen: &Seen,
     table: &Table,
 ) -> Result<(), AllocError>
-    ensures { OnOk result (findings.new.items ≡ findings.old.items ++ node_address_findings place.now seen.now.addresses.items (table_view table.now)) }
+    ensures { OnOk result (findings.new.items ≡ findings.old.items
+        ++ node_address_findings place.now seen.now.addresses.items (table_view table.now)) }
 {
     let mut hint = Vec::new(*findings.allocator());
     push_address_said(
@@ -89,7 +95,8 @@ fn push_one_row(
     number: u8,
     value: &Value,
 ) -> Result<(), AllocError>
-    ensures { OnOk result (findings.new.items ≡ findings.old.items ++ row_findings (key_place node.now.number number node.now.called) (view value.now)) }
+    ensures { OnOk result (findings.new.items ≡ findings.old.items
+        ++ row_findings (key_place node.now.number number node.now.called) (view value.now)) }
 {
     let place = node.place(*findings.allocator(), number)?;
     push_row(findings, &place, value)
@@ -101,7 +108,8 @@ fn push_each_row(
     values: &[Value],
 ) -> Result<(), AllocError>
     requires { length values.now ≤ row_limit }
-    ensures { OnOk result (findings.new.items ≡ findings.old.items ++ rows_findings_from node.now.number 1 node.now.called (items_view values.now)) }
+    ensures { OnOk result (findings.new.items ≡ findings.old.items
+        ++ rows_findings_from node.now.number 1 node.now.called (items_view values.now)) }
 {
     for (i, value) in values.iter().enumerate() {
         push_one_row(findings, node, (i + 1) as u8, value)?;
@@ -114,7 +122,8 @@ fn push_row_count(
     node: &NodeName,
     count: usize,
 ) -> Result<(), AllocError>
-    ensures { OnOk result (findings.new.items ≡ findings.old.items ++ finding_at (key_place node.now.number 0 node.now.called) (codes "key") (count_said count rows_wanted) ∷ []) }
+    ensures { OnOk result (findings.new.items ≡ findings.old.items
+        ++ finding_at (key_place node.now.number 0 node.now.called) (codes "key") (count_said count rows_wanted) ∷ []) }
 {
     let place = node.place(*findings.allocator(), 0)?;
     push_count(findings, &place, "key", count, ROWS_WANTED)
@@ -125,7 +134,9 @@ fn push_no_rows(
     node: &NodeName,
     value: &Value,
 ) -> Result<(), AllocError>
-    ensures { OnOk result (findings.new.items ≡ findings.old.items ++ finding_at (key_place node.now.number 0 node.now.called) (codes "key") (hidden_said (Some (view value.now)) rows_wanted) ∷ []) }
+    ensures { OnOk result (findings.new.items ≡ findings.old.items
+        ++ finding_at (key_place node.now.number 0 node.now.called) (codes "key")
+        (hidden_said (Some (view value.now)) rows_wanted) ∷ []) }
 {
     let place = node.place(*findings.allocator(), 0)?;
     push_hidden(findings, &place, "key", Some(value), ROWS_WANTED)
@@ -137,7 +148,8 @@ fn push_row_array(
     node: &NodeName,
     values: &[Value],
 ) -> Result<(), AllocError>
-    ensures { OnOk result (findings.new.items ≡ findings.old.items ++ rows_findings node.now.number node.now.called (Some (array (items_view values.now)))) }
+    ensures { OnOk result (findings.new.items ≡ findings.old.items
+        ++ rows_findings node.now.number node.now.called (Some (array (items_view values.now)))) }
 {
     if values.len() <= ROW_LIMIT {
         return push_each_row(findings, node, values);
@@ -151,7 +163,8 @@ fn push_rows(
     node: &NodeName,
     value: Option<&Value>,
 ) -> Result<(), AllocError>
-    ensures { OnOk result (findings.new.items ≡ findings.old.items ++ rows_findings node.now.number node.now.called (option_map (λ v. view v.now) value.entry)) }
+    ensures { OnOk result (findings.new.items ≡ findings.old.items
+        ++ rows_findings node.now.number node.now.called (option_map (λ v. view v.now) value.entry)) }
 {
     match value {
         Some(value) => match value.as_array() {
@@ -170,7 +183,9 @@ pub(crate) fn push_fields(
     seen: &Seen,
     table: &Table,
 ) -> Result<(), AllocError>
-    ensures { OnOk result (findings.new.items ≡ findings.old.items ++ node_fields_findings node.now.number node.now.called seen.now.names.items seen.now.addresses.items (table_view table.now)) }
+    ensures { OnOk result (findings.new.items ≡ findings.old.items
+        ++ node_fields_findings node.now.number node.now.called seen.now.names.items seen.now.addresses.items
+        (table_view table.now)) }
 {
     let place = node.place(*findings.allocator(), 0)?;
     push_unknown(findings, &["name", "address", "key"], &place, table)?;

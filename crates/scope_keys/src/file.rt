@@ -2,7 +2,8 @@
 ghost use Rattle.std.specs.Prelude.{◌≡◌, ◌≤◌, ◌++◌, Err, IfOk, Ok, OnOk, flat_map, length};
 ghost use Rattle.toml.specs.View.{table_view};
 ghost use Rattle.book_keys.specs.Rows.{row_limit};
-ghost use Rattle.book_scope_keys.specs.FileFindings.{field_findings, first_or_further, has_nodes, no_faults_line, refused_findings, row_total, syntax_line, tables_line};
+ghost use Rattle.book_scope_keys.specs.FileFindings.{field_findings, first_or_further, has_nodes, no_faults_line};
+ghost use Rattle.book_scope_keys.specs.FileFindings.{refused_findings, row_total, syntax_line, tables_line};
 ghost use Rattle.book_scope_keys.specs.Places.{key_finding_line};
 
 use crate::nodes::push_document;
@@ -21,7 +22,8 @@ pub fn findings(
     document: &toml::Table,
     fault: TableFault,
 ) -> Result<Vec<KeyFinding>, AllocError>
-    ensures { IfOk result (λ found. found.items ≡ first_or_further (field_findings (table_view document.now)) (refused_findings (table_view document.now) (Err fault))) }
+    ensures { IfOk result (λ found. found.items ≡ first_or_further (field_findings (table_view document.now))
+        (refused_findings (table_view document.now) (Err fault))) }
 {
     let mut found = Vec::new(alloc);
     push_document(&mut found, document)?;

@@ -4,7 +4,9 @@ ghost use Rattle.toml.specs.Data.{array};
 ghost use Rattle.toml.specs.View.{items_view, table_view, view};
 ghost use Rattle.book_keys.specs.Rows.{node_limit};
 ghost use Rattle.book_scope_keys.specs.FieldTexts.{field_said, finding_at};
-ghost use Rattle.book_scope_keys.specs.FileFindings.{called_by, field_findings, file_place, key_place, node_called, node_fields_findings, node_findings, nodes_findings, nodes_findings_from, nodes_wanted};
+ghost use Rattle.book_scope_keys.specs.FileFindings.{called_by, field_findings, file_place, key_place, node_called};
+ghost use Rattle.book_scope_keys.specs.FileFindings.{node_fields_findings, node_findings, nodes_findings};
+ghost use Rattle.book_scope_keys.specs.FileFindings.{nodes_findings_from, nodes_wanted};
 ghost use Rattle.book_scope_keys.specs.RowFindings.{count_said};
 
 use crate::fields::push_fields;
@@ -26,7 +28,9 @@ fn push_table(
     number: u8,
     table: &Table,
 ) -> Result<(), AllocError>
-    ensures { OnOk result (findings.new.items ≡ findings.old.items ++ node_fields_findings number (node_called number (table_view table.now)) seen.now.names.items seen.now.addresses.items (table_view table.now)) }
+    ensures { OnOk result (findings.new.items ≡ findings.old.items
+        ++ node_fields_findings number (node_called number (table_view table.now)) seen.now.names.items
+        seen.now.addresses.items (table_view table.now)) }
 {
     let node = node_of(*findings.allocator(), number, table)?;
     push_fields(findings, &node, seen, table)
@@ -37,7 +41,9 @@ fn push_no_table(
     number: u8,
     value: &Value,
 ) -> Result<(), AllocError>
-    ensures { OnOk result (findings.new.items ≡ findings.old.items ++ finding_at (key_place number 0 (called_by number None)) (codes "node") (field_said (Some (view value.now)) [] (codes "a table, [[node]]")) ∷ []) }
+    ensures { OnOk result (findings.new.items ≡ findings.old.items
+        ++ finding_at (key_place number 0 (called_by number None)) (codes "node")
+        (field_said (Some (view value.now)) [] (codes "a table, [[node]]")) ∷ []) }
 {
     let node = named(*findings.allocator(), number, None)?;
     let place = node.place(*findings.allocator(), 0)?;
@@ -51,7 +57,8 @@ fn push_node(
     number: u8,
     value: &Value,
 ) -> Result<(), AllocError>
-    ensures { OnOk result (findings.new.items ≡ findings.old.items ++ node_findings number seen.now.names.items seen.now.addresses.items (view value.now)) }
+    ensures { OnOk result (findings.new.items ≡ findings.old.items
+        ++ node_findings number seen.now.names.items seen.now.addresses.items (view value.now)) }
 {
     match value.as_table() {
         Some(table) => push_table(findings, seen, number, table),
@@ -61,7 +68,8 @@ fn push_node(
 
 fn push_each_node(findings: &mut Vec<KeyFinding>, values: &[Value]) -> Result<(), AllocError>
     requires { length values.now ≤ node_limit }
-    ensures { OnOk result (findings.new.items ≡ findings.old.items ++ nodes_findings_from 1 [] [] (items_view values.now)) }
+    ensures { OnOk result (findings.new.items ≡ findings.old.items
+        ++ nodes_findings_from 1 [] [] (items_view values.now)) }
 {
     let mut seen = Seen::new(*findings.allocator());
     for (i, value) in values.iter().enumerate() {
@@ -72,14 +80,16 @@ fn push_each_node(findings: &mut Vec<KeyFinding>, values: &[Value]) -> Result<()
 }
 
 fn push_node_count(findings: &mut Vec<KeyFinding>, count: usize) -> Result<(), AllocError>
-    ensures { OnOk result (findings.new.items ≡ findings.old.items ++ finding_at file_place (codes "node") (count_said count nodes_wanted) ∷ []) }
+    ensures { OnOk result (findings.new.items ≡ findings.old.items
+        ++ finding_at file_place (codes "node") (count_said count nodes_wanted) ∷ []) }
 {
     let place = file_place(*findings.allocator());
     push_count(findings, &place, "node", count, NODES_WANTED)
 }
 
 fn push_no_nodes(findings: &mut Vec<KeyFinding>, value: &Value) -> Result<(), AllocError>
-    ensures { OnOk result (findings.new.items ≡ findings.old.items ++ finding_at file_place (codes "node") (field_said (Some (view value.now)) [] nodes_wanted) ∷ []) }
+    ensures { OnOk result (findings.new.items ≡ findings.old.items
+        ++ finding_at file_place (codes "node") (field_said (Some (view value.now)) [] nodes_wanted) ∷ []) }
 {
     let place = file_place(*findings.allocator());
     push_misfit(findings, &place, "node", Some(value), NODES_WANTED)
@@ -87,7 +97,8 @@ fn push_no_nodes(findings: &mut Vec<KeyFinding>, value: &Value) -> Result<(), Al
 
 #[tactic(auto, unfolding(book_scope_keys::specs::FileFindings::nodes_findings), using(key_table::proofs::ItemLaws::count_view))]
 fn push_node_array(findings: &mut Vec<KeyFinding>, values: &[Value]) -> Result<(), AllocError>
-    ensures { OnOk result (findings.new.items ≡ findings.old.items ++ nodes_findings (Some (array (items_view values.now)))) }
+    ensures { OnOk result (findings.new.items ≡ findings.old.items
+        ++ nodes_findings (Some (array (items_view values.now)))) }
 {
     if values.len() <= NODE_LIMIT {
         return push_each_node(findings, values);
@@ -97,7 +108,8 @@ fn push_node_array(findings: &mut Vec<KeyFinding>, values: &[Value]) -> Result<(
 
 #[tactic(auto, unfolding(book_scope_keys::specs::FileFindings::nodes_findings))]
 fn push_nodes(findings: &mut Vec<KeyFinding>, value: Option<&Value>) -> Result<(), AllocError>
-    ensures { OnOk result (findings.new.items ≡ findings.old.items ++ nodes_findings (option_map (λ v. view v.now) value.entry)) }
+    ensures { OnOk result (findings.new.items ≡ findings.old.items
+        ++ nodes_findings (option_map (λ v. view v.now) value.entry)) }
 {
     match value {
         Some(value) => match value.as_array() {

@@ -3,7 +3,8 @@ ghost use Rattle.std.specs.Prelude.{◌≡◌, ◌++◌, ◌∷◌, [], Err, OnO
 ghost use Rattle.toml.specs.Data.{get_member};
 ghost use Rattle.toml.specs.View.{table_view, view};
 ghost use Rattle.book_scope_keys.specs.FieldTexts.{finding_at};
-ghost use Rattle.book_scope_keys.specs.FileFindings.{data_called, file_place, key_place, node_data, overlap_said, refused_findings};
+ghost use Rattle.book_scope_keys.specs.FileFindings.{data_called, file_place, key_place, node_data, overlap_said};
+ghost use Rattle.book_scope_keys.specs.FileFindings.refused_findings;
 
 use crate::node::{file_place, node_at};
 use ao_base::push_decimal;
@@ -15,7 +16,8 @@ use toml::{Table, Value};
 
 /// The node of this number, from 1.
 fn node_numbered(document: &Table, number: u8) -> Option<&Value>
-    ensures { option_map (λ v. view v.now) result ≡ node_data number (get_member (codes "node") (table_view document.now)) }
+    ensures { option_map (λ v. view v.now) result ≡ node_data number
+        (get_member (codes "node") (table_view document.now)) }
 {
     member_at(document, "node")?.get(usize::from(number).saturating_sub(1))
 }
@@ -36,7 +38,11 @@ fn push_overlap(
     first: u8,
     second: u8,
 ) -> Result<(), AllocError>
-    ensures { OnOk result (findings.new.items ≡ findings.old.items ++ finding_at (key_place number second (data_called number (node_data number (get_member (codes "node") (table_view document.now))))) (codes "key") (overlap_said first) ∷ []) }
+    ensures { OnOk result (findings.new.items ≡ findings.old.items
+        ++ finding_at
+        (key_place number second
+        (data_called number (node_data number (get_member (codes "node") (table_view document.now))))) (codes "key")
+        (overlap_said first) ∷ []) }
 {
     let node = node_at(
         *findings.allocator(),
@@ -50,7 +56,8 @@ fn push_overlap(
 }
 
 fn push_refusal(findings: &mut Vec<KeyFinding>) -> Result<(), AllocError>
-    ensures { OnOk result (findings.new.items ≡ findings.old.items ++ finding_at file_place (codes "file") (codes "refused") ∷ []) }
+    ensures { OnOk result (findings.new.items ≡ findings.old.items
+        ++ finding_at file_place (codes "file") (codes "refused") ∷ []) }
 {
     let place = file_place(*findings.allocator());
     push_finding(findings, &place, b"file", b"refused")
@@ -63,7 +70,8 @@ pub(crate) fn push_refused(
     document: &Table,
     fault: TableFault,
 ) -> Result<(), AllocError>
-    ensures { OnOk result (findings.new.items ≡ findings.old.items ++ refused_findings (table_view document.now) (Err fault)) }
+    ensures { OnOk result (findings.new.items ≡ findings.old.items
+        ++ refused_findings (table_view document.now) (Err fault)) }
 {
     match fault {
         TableFault::Overlap(node, first, second) => {

@@ -1,5 +1,6 @@
 //! What is written of a key file.
-ghost use Rattle.std.specs.Prelude.{◌≡◌, ◌≤◌, ◌↔◌, [], Err, IfOk, IsOk, None, Ok, Some, false, flat_map, length, not, true};
+ghost use Rattle.std.specs.Prelude.{◌≡◌, ◌≤◌, ◌↔◌, [], Err, IfOk, IsOk, None, Ok, Some, false, flat_map, length};
+ghost use Rattle.std.specs.Prelude.{not, true};
 ghost use Rattle.toml.specs.View.{table_view};
 ghost use Rattle.book_keys.specs.Nodes.{document_of, tables_of};
 ghost use Rattle.book_scope_keys.specs.FileFindings.{has_nodes, key_findings, syntax_line, tables_line};

@@ -5,7 +5,8 @@ ghost use Rattle.std.specs.Str.{bytes_eq};
 ghost use Rattle.toml.specs.View.{table_view, view};
 ghost use Rattle.book_keys.specs.Nodes.{node_address_of, node_name_of};
 ghost use Rattle.book_segments.specs.Sockets.{same_address};
-ghost use Rattle.book_scope_keys.specs.FileFindings.{addresses_with, bare_table, names_with, new_address, new_name, table_named};
+ghost use Rattle.book_scope_keys.specs.FileFindings.{addresses_with, bare_table, names_with, new_address, new_name};
+ghost use Rattle.book_scope_keys.specs.FileFindings.table_named;
 
 use ao_base::{is_same_address, read_address};
 use book_base::{Address, Bytes};
@@ -83,7 +84,8 @@ pub(crate) fn address_at(addresses: &[Address], table: &Table) -> Option<Address
 }
 
 fn add_name(names: &mut Vec<Bytes>, table: &Table) -> Result<(), AllocError>
-    ensures { OnOk result (names.new.items ≡ names.old.items ++ option_to_list (new_name names.old.items (table_view table.now))) }
+    ensures { OnOk result (names.new.items ≡ names.old.items ++ option_to_list
+        (new_name names.old.items (table_view table.now))) }
 {
     match name_at(names.as_slice(), table) {
         Some(name) => {
@@ -96,7 +98,8 @@ fn add_name(names: &mut Vec<Bytes>, table: &Table) -> Result<(), AllocError>
 }
 
 fn add_address(addresses: &mut Vec<Address>, table: &Table) -> Result<(), AllocError>
-    ensures { OnOk result (addresses.new.items ≡ addresses.old.items ++ option_to_list (new_address addresses.old.items (table_view table.now))) }
+    ensures { OnOk result (addresses.new.items ≡ addresses.old.items
+        ++ option_to_list (new_address addresses.old.items (table_view table.now))) }
 {
     match address_at(addresses.as_slice(), table) {
         Some(address) => {
@@ -122,7 +125,8 @@ impl Seen {
     /// A further node is in front. An error only for want of memory.
     pub(crate) fn add(&mut self, node: &Value) -> Result<(), AllocError>
         ensures names { OnOk result (self.new.names.items ≡ names_with self.old.names.items (view node.now)) }
-        ensures addresses { OnOk result (self.new.addresses.items ≡ addresses_with self.old.addresses.items (view node.now)) }
+        ensures addresses { OnOk result (self.new.addresses.items
+            ≡ addresses_with self.old.addresses.items (view node.now)) }
     {
         match node {
             Value::Table(table) => {

@@ -2,7 +2,8 @@
 ghost use Rattle.std.specs.Prelude.{◌≡◌, ◌++◌, OnOk};
 ghost use Rattle.std.specs.List.{list_any};
 ghost use Rattle.book_segments.specs.Bytes.{same_bytes};
-ghost use Rattle.book_scope_plan.specs.CalendarTexts.{are_both_ends, calendar_line, calendar_lines, calendar_text, is_twin, told_line, turning_name};
+ghost use Rattle.book_scope_plan.specs.CalendarTexts.{are_both_ends, calendar_line, calendar_lines, calendar_text};
+ghost use Rattle.book_scope_plan.specs.CalendarTexts.{is_twin, told_line, turning_name};
 
 use crate::told::told_turns;
 use book_base::End;
@@ -43,7 +44,8 @@ fn has_twin(told: &Told, all: &[Told]) -> bool
 
 /// The name of the node, or those of both.
 fn push_name(out: &mut Vec<u8>, ends: &Connected, end: End, both: bool) -> Result<(), AllocError>
-    ensures { OnOk result (out.new.items ≡ out.old.items ++ turning_name ends.now.tables.a.now ends.now.tables.b.now end both) }
+    ensures { OnOk result (out.new.items ≡ out.old.items ++ turning_name ends.now.tables.a.now ends.now.tables.b.now
+        end both) }
 {
     if both {
         out.extend_from_slice(ends.tables.a.name())?;
@@ -55,7 +57,8 @@ fn push_name(out: &mut Vec<u8>, ends: &Connected, end: End, both: bool) -> Resul
 }
 
 fn push_told(out: &mut Vec<u8>, ends: &Connected, told: &Told, both: bool) -> Result<(), AllocError>
-    ensures { OnOk result (out.new.items ≡ out.old.items ++ told_line (turning_name ends.now.tables.a.now ends.now.tables.b.now told.now.end both) told.now) }
+    ensures { OnOk result (out.new.items ≡ out.old.items ++ told_line
+        (turning_name ends.now.tables.a.now ends.now.tables.b.now told.now.end both) told.now) }
 {
     out.extend_from_slice(b"  ")?;
     push_instant(out, told.time)?;
@@ -71,7 +74,8 @@ fn push_line(
     all: &[Told],
     told: &Told,
 ) -> Result<(), AllocError>
-    ensures { OnOk result (out.new.items ≡ out.old.items ++ calendar_line ends.now.tables.a.now ends.now.tables.b.now all.now told.now) }
+    ensures { OnOk result (out.new.items ≡ out.old.items ++ calendar_line ends.now.tables.a.now ends.now.tables.b.now
+        all.now told.now) }
 {
     let both = has_twin(told, all);
     match told.end {
@@ -87,7 +91,8 @@ fn push_line(
 }
 
 fn push_lines(out: &mut Vec<u8>, ends: &Connected, all: &[Told]) -> Result<(), AllocError>
-    ensures { OnOk result (out.new.items ≡ out.old.items ++ calendar_lines ends.now.tables.a.now ends.now.tables.b.now all.now all.now) }
+    ensures { OnOk result (out.new.items ≡ out.old.items ++ calendar_lines ends.now.tables.a.now ends.now.tables.b.now
+        all.now all.now) }
 {
     for told in all {
         push_line(out, ends, all, told)?;
@@ -102,7 +107,8 @@ pub(crate) fn push_calendar(
     ends: &Connected,
     turns: &[Turn],
 ) -> Result<(), AllocError>
-    ensures { OnOk result (out.new.items ≡ out.old.items ++ calendar_text ends.now.tables.a.now ends.now.tables.b.now turns.now) }
+    ensures { OnOk result (out.new.items ≡ out.old.items ++ calendar_text ends.now.tables.a.now ends.now.tables.b.now
+        turns.now) }
 {
     let told = told_turns(alloc, ends, turns)?;
     push_lines(out, ends, told.as_slice())

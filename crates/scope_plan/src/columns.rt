@@ -2,7 +2,9 @@
 ghost use Rattle.std.specs.Prelude.{◌≡◌, ◌++◌, OnOk, decimal, length};
 ghost use Rattle.book_base.specs.Algorithms.{name_of};
 ghost use Rattle.book_segments.specs.Bytes.{same_bytes};
-ghost use Rattle.book_scope_plan.specs.DifferenceTexts.{algorithms_text, direction_name, wrong_direction_text, ends_in_feed, ids_end, ids_text, is_with_feed, key_text, unequal_words, peers_text, port_text};
+ghost use Rattle.book_scope_plan.specs.DifferenceTexts.{algorithms_text, direction_name, wrong_direction_text};
+ghost use Rattle.book_scope_plan.specs.DifferenceTexts.{ends_in_feed, ids_end, ids_text, is_with_feed, key_text};
+ghost use Rattle.book_scope_plan.specs.DifferenceTexts.{unequal_words, peers_text, port_text};
 
 use ao_base::push_decimal;
 use book_base::Address;

@@ -3,7 +3,9 @@ ghost use Rattle.std.specs.Prelude.{◌≡◌, ◌++◌, OnOk, IfOk};
 ghost use Rattle.std.specs.List.{list_any};
 ghost use Rattle.book_plans.specs.Margins.{lead_margin_of, lag_margin_of};
 ghost use Rattle.book_scope_plan.specs.FindingTexts.{text_if};
-ghost use Rattle.book_scope_plan.specs.PlanTexts.{aligned_line, begins_sending, both_text, connection_text, facing, findings_text, has_none, is_good_plan, margin_text, node_with, nodes_text, plan_findings, unchanged_line};
+ghost use Rattle.book_scope_plan.specs.PlanTexts.{aligned_line, begins_sending, both_text, connection_text, facing};
+ghost use Rattle.book_scope_plan.specs.PlanTexts.{findings_text, has_none, is_good_plan, margin_text, node_with};
+ghost use Rattle.book_scope_plan.specs.PlanTexts.{nodes_text, plan_findings, unchanged_line};
 ghost use Rattle.scope_plan.specs.Facings.{facing_of};
 ghost use Rattle.scope_plan.specs.KeyFiles.{key_file_of};
 
@@ -74,7 +76,8 @@ fn push_judgement(
     tables: &Tables,
     findings: &[Finding],
 ) -> Result<(), AllocError>
-    ensures { OnOk result (out.new.items ≡ out.old.items ++ findings_text (facing_of facing.now) tables.now findings.now) }
+    ensures { OnOk result (out.new.items ≡ out.old.items ++ findings_text (facing_of facing.now) tables.now
+        findings.now) }
 {
     match findings {
         [] => {
@@ -149,7 +152,9 @@ fn push_both(
     keys: &KeyFile,
     plan: &Plan,
 ) -> Result<bool, AllocError>
-    ensures text { OnOk result (out.new.items ≡ out.old.items ++ both_text (facing (key_file_of keys.now) ends.now.tables.a.now ends.now.tables.b.now plan.now ends.now.pair) keys.now.tables) }
+    ensures text { OnOk result (out.new.items ≡ out.old.items
+        ++ both_text (facing (key_file_of keys.now) ends.now.tables.a.now ends.now.tables.b.now plan.now ends.now.pair)
+        keys.now.tables) }
     ensures good { IfOk result (λ good. good ≡ has_none (plan_findings keys.now.tables plan.now ends.now.pair)) }
 {
     let tables = &keys.tables;
@@ -172,7 +177,8 @@ pub(crate) fn push_connection(
     plan: &Plan,
     pair: &Pair,
 ) -> Result<bool, AllocError>
-    ensures text { OnOk result (out.new.items ≡ out.old.items ++ connection_text (key_file_of keys.now) plan.now pair.now) }
+    ensures text { OnOk result (out.new.items ≡ out.old.items
+        ++ connection_text (key_file_of keys.now) plan.now pair.now) }
     ensures good { IfOk result (λ good. good ≡ is_good_plan keys.now.tables plan.now pair.now) }
 {
     push_pair_line(out, pair)?;

@@ -2,7 +2,11 @@
 ghost use Rattle.std.specs.Prelude.{◌≡◌, ◌==◌, ◌&&◌, ◌++◌, ◌≤◌, not, OnOk, option_map};
 ghost use Rattle.toml.specs.View.{table_view};
 ghost use Rattle.book_plans.specs.Differences.{differences};
-ghost use Rattle.book_scope_plan.specs.DifferenceTexts.{algorithms_text, are_exchanged, connection_lines, difference_head, difference_lines, wrong_direction_text, has_peer, has_same_ids, ids_text, key_column_lines, key_text, line_if, nearest_lines, options_words, peers_text, port_line, port_text, use_column_lines};
+ghost use Rattle.book_scope_plan.specs.DifferenceTexts.{algorithms_text, are_exchanged, connection_lines};
+ghost use Rattle.book_scope_plan.specs.DifferenceTexts.{difference_head, difference_lines, wrong_direction_text};
+ghost use Rattle.book_scope_plan.specs.DifferenceTexts.{has_peer, has_same_ids, ids_text, key_column_lines};
+ghost use Rattle.book_scope_plan.specs.DifferenceTexts.{key_text, line_if, nearest_lines, options_words, peers_text};
+ghost use Rattle.book_scope_plan.specs.DifferenceTexts.{port_line, port_text, use_column_lines};
 ghost use Rattle.book_scope_plan.specs.FindingTexts.{difference_count, fewest, one_if, row_name, text_if};
 ghost use Rattle.scope_plan.specs.Facings.{facing_of};
 
@@ -65,7 +69,8 @@ fn push_ids_if(
     other: &Row,
     exchanged: bool,
 ) -> Result<(), AllocError>
-    ensures { OnOk result (out.new.items ≡ out.old.items ++ line_if holds name.now (ids_text row.now other.now exchanged)) }
+    ensures { OnOk result (out.new.items ≡ out.old.items ++ line_if holds name.now
+        (ids_text row.now other.now exchanged)) }
 {
     if !holds {
         return Ok(());
@@ -97,7 +102,8 @@ fn push_algorithms_if(
     row: &Row,
     other: &Row,
 ) -> Result<(), AllocError>
-    ensures { OnOk result (out.new.items ≡ out.old.items ++ line_if holds name.now (algorithms_text row.now other.now)) }
+    ensures { OnOk result (out.new.items ≡ out.old.items ++ line_if holds name.now
+        (algorithms_text row.now other.now)) }
 {
     if !holds {
         return Ok(());
@@ -254,7 +260,8 @@ fn push_differences(
     other: &Row,
     d: &Differences,
 ) -> Result<(), AllocError>
-    ensures { OnOk result (out.new.items ≡ out.old.items ++ difference_lines name.now pair.now row.now other.now d.now) }
+    ensures { OnOk result (out.new.items ≡ out.old.items ++ difference_lines name.now pair.now row.now other.now
+        d.now) }
 {
     push_key_lines(out, name, row, other, d)?;
     push_use_lines(out, name, pair, other, d)
@@ -269,7 +276,10 @@ fn push_near(
     number: u8,
     other: &Row,
 ) -> Result<(), AllocError>
-    ensures { OnOk result (out.new.items ≡ out.old.items ++ text_if (difference_count (differences facing.now.pair row.now other.now) == count) (difference_lines (row_name (table_view facing.now.document.now) facing.now.other.now.name number) facing.now.pair row.now other.now (differences facing.now.pair row.now other.now))) }
+    ensures { OnOk result (out.new.items ≡ out.old.items ++ text_if
+        (difference_count (differences facing.now.pair row.now other.now) == count)
+        (difference_lines (row_name (table_view facing.now.document.now) facing.now.other.now.name number)
+        facing.now.pair row.now other.now (differences facing.now.pair row.now other.now))) }
 {
     let d = differences(&facing.pair, row, other);
     if difference_count(&d) == count {
@@ -288,7 +298,8 @@ pub(crate) fn push_nearest(
     row: &Row,
     count: u8,
 ) -> Result<(), AllocError>
-    ensures { OnOk result (out.new.items ≡ out.old.items ++ nearest_lines (facing_of facing.now) row.now count 1 facing.now.other.now.rows) }
+    ensures { OnOk result (out.new.items ≡ out.old.items ++ nearest_lines (facing_of facing.now) row.now count 1
+        facing.now.other.now.rows) }
 {
     // It tells that a table has at most 64 rows, so that each number fits.
     let _count = facing.other.rows();

@@ -2,7 +2,8 @@
 ghost use Rattle.std.specs.Prelude.{◌≡◌, ◌++◌, ◌+◌, ◌≤◌, ◌&&◌, OnOk, IfOk, is_some, option_map};
 ghost use Rattle.book_draw_plan.specs.Bars.{both_bars, drawing_text, nodes_bars};
 ghost use Rattle.page_draw_plan_svg.specs.PlanLines.{drawing_lines};
-ghost use Rattle.book_scope_plan.specs.PlanTexts.{connection_line, has_none, is_good_plan, missing_text, node_with, plan_findings};
+ghost use Rattle.book_scope_plan.specs.PlanTexts.{connection_line, has_none, is_good_plan, missing_text, node_with};
+ghost use Rattle.book_scope_plan.specs.PlanTexts.plan_findings;
 ghost use Rattle.scope_plan.specs.KeyFiles.{key_file_of};
 ghost use Rattle.draw_plan_svg.specs.Draws.{Draws};
 ghost use Rattle.scope_plan.specs.Plannings.{connection_as, framed_plan, lines_as};
@@ -29,7 +30,9 @@ fn push_both(
     tables: &Tables,
     plan: &Plan,
 ) -> Result<bool, AllocError>
-    ensures text { OnOk result (out.new.items ≡ out.old.items ++ both_bars ends.now.tables.a.now ends.now.tables.b.now ends.now.pair plan.now (plan_findings tables.now plan.now ends.now.pair)) }
+    ensures text { OnOk result (out.new.items ≡ out.old.items
+        ++ both_bars ends.now.tables.a.now ends.now.tables.b.now ends.now.pair plan.now
+        (plan_findings tables.now plan.now ends.now.pair)) }
     ensures good { IfOk result (λ good. good ≡ has_none (plan_findings tables.now plan.now ends.now.pair)) }
 {
     let findings = findings_by(alloc, tables, &ends.pair, plan)?;
@@ -70,7 +73,8 @@ fn push_drawing(
 
 /// Whether both ends have nodes, and there is no finding.
 fn is_good(a: Option<&Table>, b: Option<&Table>, findings: &[Finding]) -> bool
-    ensures { result ≡ ((is_some (option_map (λ t. t.now) a.entry) && is_some (option_map (λ t. t.now) b.entry)) && has_none findings.now) }
+    ensures { result ≡ ((is_some (option_map (λ t. t.now) a.entry) && is_some (option_map (λ t. t.now) b.entry))
+        && has_none findings.now) }
 {
     match (a, b) {
         (Some(_), Some(_)) => has_none(findings),
@@ -89,7 +93,8 @@ fn push_pictured(
     pair: &Pair,
 ) -> Result<Written, AllocError>
     requires { line ≤ 4000000000 }
-    ensures drawn { IfOk result (λ w. Draws (key_file_of keys.now).document plan.now (drawing_lines keys.now.tables plan.now pair.now) out.old.items line out.new.items w.next) }
+    ensures drawn { IfOk result (λ w. Draws (key_file_of keys.now).document plan.now
+        (drawing_lines keys.now.tables plan.now pair.now) out.old.items line out.new.items w.next) }
     ensures few { IfOk result (λ w. w.next ≤ line + 8451) }
     ensures good { IfOk result (λ w. w.is_good ≡ is_good_plan keys.now.tables plan.now pair.now) }
 {
@@ -125,7 +130,8 @@ pub(crate) fn push_connection_as(
     pair: &Pair,
 ) -> Result<Written, AllocError>
     requires { line ≤ 4000000000 }
-    ensures text { OnOk result (out.new.items ≡ out.old.items ++ connection_as form (key_file_of keys.now) plan.now line pair.now) }
+    ensures text { OnOk result (out.new.items ≡ out.old.items
+        ++ connection_as form (key_file_of keys.now) plan.now line pair.now) }
     ensures next { IfOk result (λ w. w.next ≡ line + lines_as form (key_file_of keys.now) plan.now pair.now) }
     ensures few { IfOk result (λ w. w.next ≤ line + 8451) }
     ensures good { IfOk result (λ w. w.is_good ≡ is_good_plan keys.now.tables plan.now pair.now) }

@@ -25,7 +25,8 @@ pub(crate) struct Facing<'a> {
 impl<'a> Facing<'a> {
     /// The connection as end A sees it.
     pub(crate) fn new(keys: &'a KeyFile, ends: &Connected<'a>, plan: &Plan) -> Facing<'a>
-        ensures { facing_of result ≡ facing (key_file_of keys.now) ends.now.tables.a.now ends.now.tables.b.now plan.now ends.now.pair }
+        ensures { facing_of result ≡ facing (key_file_of keys.now) ends.now.tables.a.now ends.now.tables.b.now plan.now
+            ends.now.pair }
     {
         Facing {
             document: &keys.document,

@@ -36,7 +36,8 @@ fn push_unmet(
     row: &Row,
     words: &[u8],
 ) -> Result<(), AllocError>
-    ensures { OnOk result (out.new.items ≡ out.old.items ++ unmet_line (facing_of facing.now) number row.now words.now) }
+    ensures { OnOk result (out.new.items ≡ out.old.items ++ unmet_line (facing_of facing.now) number row.now
+        words.now) }
 {
     out.extend_from_slice(b"  WRONG ")?;
     push_row_name(out, facing.document, facing.node.name(), number)?;
@@ -47,7 +48,8 @@ fn push_unmet(
 
 /// A row that no row of the other end accepts.
 fn push_refused(out: &mut Vec<u8>, facing: &Facing, number: u8) -> Result<(), AllocError>
-    ensures { OnOk result (out.new.items ≡ out.old.items ++ refused_text (facing_of facing.now) number (row_numbered facing.now.node.now.rows number)) }
+    ensures { OnOk result (out.new.items ≡ out.old.items ++ refused_text (facing_of facing.now) number
+        (row_numbered facing.now.node.now.rows number)) }
 {
     match row_numbered(facing.node, number) {
         Some(row) => {
@@ -68,7 +70,8 @@ fn short_words() -> &'static [u8]
 
 /// A row that no row of the other end accepts for long enough.
 fn push_too_short(out: &mut Vec<u8>, facing: &Facing, number: u8) -> Result<(), AllocError>
-    ensures { OnOk result (out.new.items ≡ out.old.items ++ short_text (facing_of facing.now) number (row_numbered facing.now.node.now.rows number)) }
+    ensures { OnOk result (out.new.items ≡ out.old.items ++ short_text (facing_of facing.now) number
+        (row_numbered facing.now.node.now.rows number)) }
 {
     match row_numbered(facing.node, number) {
         Some(row) => {
@@ -98,7 +101,8 @@ pub(crate) fn push_findings(
     facing: &Facing,
     findings: &[Finding],
 ) -> Result<(), AllocError>
-    ensures { OnOk result (out.new.items ≡ out.old.items ++ flat_map (finding_text (facing_of facing.now)) findings.now) }
+    ensures { OnOk result (out.new.items ≡ out.old.items ++ flat_map (finding_text (facing_of facing.now))
+        findings.now) }
 {
     for finding in findings {
         push_finding(out, facing, *finding)?;

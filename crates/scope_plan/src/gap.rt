@@ -2,7 +2,9 @@
 ghost use Rattle.std.specs.Prelude.{◌≡◌, ◌++◌, false, IfOk, OnOk};
 ghost use Rattle.toml.specs.View.{table_view};
 ghost use Rattle.book_scope_plan.specs.FindingTexts.{row_name, seconds_between, seconds_text, text_if};
-ghost use Rattle.book_scope_plan.specs.WayTexts.{begins_after, ends_before, gap_line, gap_lines, gap_text, is_kept_from, kept_line, kept_lines, longer_line, longer_over, sending_over, told_longer};
+ghost use Rattle.book_scope_plan.specs.WayTexts.{begins_after, ends_before, gap_line, gap_lines, gap_text};
+ghost use Rattle.book_scope_plan.specs.WayTexts.{is_kept_from, kept_line, kept_lines, longer_line, longer_over};
+ghost use Rattle.book_scope_plan.specs.WayTexts.{sending_over, told_longer};
 ghost use Rattle.scope_plan.specs.Facings.{facing_of};
 
 use crate::columns::push_direction_name;
@@ -103,7 +105,8 @@ fn push_longer(
     row: &Row,
     longer: Option<Lifetime>,
 ) -> Result<bool, AllocError>
-    ensures text { OnOk result (out.new.items ≡ out.old.items ++ longer_line (facing_of facing.now) told number row.now longer) }
+    ensures text { OnOk result (out.new.items ≡ out.old.items
+        ++ longer_line (facing_of facing.now) told number row.now longer) }
     ensures told { IfOk result (λ t. t ≡ told_longer (facing_of facing.now) told number row.now longer) }
 {
     match longer {
@@ -114,7 +117,8 @@ fn push_longer(
 
 /// The lines of the rows beside a gap, or that none can send over it.
 fn push_beside(out: &mut Vec<u8>, facing: &Facing, gap: GapSeconds) -> Result<(), AllocError>
-    ensures { OnOk result (out.new.items ≡ out.old.items ++ gap_lines (facing_of facing.now) gap false 1 facing.now.node.now.rows) }
+    ensures { OnOk result (out.new.items ≡ out.old.items ++ gap_lines (facing_of facing.now) gap false 1
+        facing.now.node.now.rows) }
 {
     // It tells that a table has at most 64 rows, so that each number fits.
     let _count = facing.node.rows();
@@ -156,7 +160,8 @@ fn push_kept_row(
     number: u8,
     row: &Row,
 ) -> Result<(), AllocError>
-    ensures { OnOk result (out.new.items ≡ out.old.items ++ text_if (is_kept_from facing.now.pair gap row.now) (kept_line (row_name (table_view facing.now.document.now) facing.now.node.now.name number) row.now.direction)) }
+    ensures { OnOk result (out.new.items ≡ out.old.items ++ text_if (is_kept_from facing.now.pair gap row.now)
+        (kept_line (row_name (table_view facing.now.document.now) facing.now.node.now.name number) row.now.direction)) }
 {
     if is_kept_from(&facing.pair, gap, row) {
         let alloc = *out.allocator();
@@ -169,7 +174,8 @@ fn push_kept_row(
 
 /// The lines of the rows that their Direction alone keeps from sending in the gap.
 fn push_kept(out: &mut Vec<u8>, facing: &Facing, gap: GapSeconds) -> Result<(), AllocError>
-    ensures { OnOk result (out.new.items ≡ out.old.items ++ kept_lines (facing_of facing.now) gap 1 facing.now.node.now.rows) }
+    ensures { OnOk result (out.new.items ≡ out.old.items ++ kept_lines (facing_of facing.now) gap 1
+        facing.now.node.now.rows) }
 {
     // It tells that a table has at most 64 rows, so that each number fits.
     let _count = facing.node.rows();

@@ -1,6 +1,7 @@
 //! What rows of the other end lack of the lifetime that is wanted of them.
 ghost use Rattle.std.specs.Prelude.{◌≡◌, ◌++◌, OnOk, decimal};
-ghost use Rattle.book_scope_plan.specs.FindingTexts.{accepting_row, accepts_text, early_line, late_line, lifetime_lines, planned_accepting, sends_text, wanted_text};
+ghost use Rattle.book_scope_plan.specs.FindingTexts.{accepting_row, accepts_text, early_line, late_line};
+ghost use Rattle.book_scope_plan.specs.FindingTexts.{lifetime_lines, planned_accepting, sends_text, wanted_text};
 ghost use Rattle.scope_plan.specs.Facings.{facing_of};
 
 use crate::facing::Facing;
@@ -80,7 +81,8 @@ fn push_early(
     row: &Row,
     other: &Row,
 ) -> Result<(), AllocError>
-    ensures { OnOk result (out.new.items ≡ out.old.items ++ early_line (facing_of facing.now) number row.now other.now) }
+    ensures { OnOk result (out.new.items ≡ out.old.items ++ early_line (facing_of facing.now) number row.now
+        other.now) }
 {
     let name = facing.other.name();
     let sent = row.sending().first;
@@ -120,7 +122,8 @@ pub(crate) fn push_lifetime(
     row: &Row,
     other: &Row,
 ) -> Result<(), AllocError>
-    ensures { OnOk result (out.new.items ≡ out.old.items ++ lifetime_lines (facing_of facing.now) number row.now other.now) }
+    ensures { OnOk result (out.new.items ≡ out.old.items ++ lifetime_lines (facing_of facing.now) number row.now
+        other.now) }
 {
     let accepting = other.accepting();
     let wanted = planned_accepting(&facing.plan, row);

@@ -4,7 +4,9 @@ ghost use Rattle.toml.specs.View.{table_view};
 ghost use Rattle.book_keys.specs.Rows.{matches};
 ghost use Rattle.book_scope_plan.specs.DifferenceTexts.{ends_in_feed};
 ghost use Rattle.book_scope_plan.specs.FindingTexts.{row_name, text_if};
-ghost use Rattle.book_scope_plan.specs.Notes.{begins_accepting_after, begins_later, begins_sending_after, has_old_key, is_left_open, never_ends, note_if, note_line, notes_text, row_notes, rows_notes, side_notes};
+ghost use Rattle.book_scope_plan.specs.Notes.{begins_accepting_after, begins_later, begins_sending_after};
+ghost use Rattle.book_scope_plan.specs.Notes.{has_old_key, is_left_open, never_ends, note_if, note_line, notes_text};
+ghost use Rattle.book_scope_plan.specs.Notes.{row_notes, rows_notes, side_notes};
 ghost use Rattle.scope_plan.specs.Facings.{facing_of};
 
 use crate::columns::ends_in_feed;
@@ -87,7 +89,8 @@ fn push_open(
     rows: &[Row],
     row: &Row,
 ) -> Result<(), AllocError>
-    ensures { OnOk result (out.new.items ≡ out.old.items ++ note_if (never_ends pair.now rows.now row.now) name.now (codes " never ends, though a later row is there\n")) }
+    ensures { OnOk result (out.new.items ≡ out.old.items ++ note_if (never_ends pair.now rows.now row.now) name.now
+        (codes " never ends, though a later row is there\n")) }
 {
     let is_due = never_ends(pair, rows, row);
     push_note_if(
@@ -105,21 +108,24 @@ fn push_old(
     rows: &[Row],
     row: &Row,
 ) -> Result<(), AllocError>
-    ensures { OnOk result (out.new.items ≡ out.old.items ++ note_if (has_old_key pair.now rows.now row.now) name.now (codes " has the Key of an earlier row\n")) }
+    ensures { OnOk result (out.new.items ≡ out.old.items ++ note_if (has_old_key pair.now rows.now row.now) name.now
+        (codes " has the Key of an earlier row\n")) }
 {
     let is_due = has_old_key(pair, rows, row);
     push_note_if(out, is_due, name, b" has the Key of an earlier row\n")
 }
 
 fn push_short_key(out: &mut Vec<u8>, name: &[u8], row: &Row) -> Result<(), AllocError>
-    ensures { OnOk result (out.new.items ≡ out.old.items ++ note_if (nat_lt (length row.now.master) 8) name.now (codes " has a Key under 8 bytes\n")) }
+    ensures { OnOk result (out.new.items ≡ out.old.items ++ note_if (nat_lt (length row.now.master) 8) name.now
+        (codes " has a Key under 8 bytes\n")) }
 {
     let is_due = is_short(row.master());
     push_note_if(out, is_due, name, b" has a Key under 8 bytes\n")
 }
 
 fn push_feed(out: &mut Vec<u8>, name: &[u8], row: &Row) -> Result<(), AllocError>
-    ensures { OnOk result (out.new.items ≡ out.old.items ++ note_if (ends_in_feed row.now.master) name.now (codes " has a Key that ends in 0a, a line feed\n")) }
+    ensures { OnOk result (out.new.items ≡ out.old.items ++ note_if (ends_in_feed row.now.master) name.now
+        (codes " has a Key that ends in 0a, a line feed\n")) }
 {
     let is_due = ends_in_feed(row.master());
     push_note_if(
@@ -155,7 +161,9 @@ fn push_row(
     rows: &[Row],
     row: &Row,
 ) -> Result<(), AllocError>
-    ensures { OnOk result (out.new.items ≡ out.old.items ++ text_if (matches row.now facing.now.pair) (row_notes (row_name (table_view facing.now.document.now) facing.now.node.now.name number) facing.now.pair rows.now row.now)) }
+    ensures { OnOk result (out.new.items ≡ out.old.items ++ text_if (matches row.now facing.now.pair)
+        (row_notes (row_name (table_view facing.now.document.now) facing.now.node.now.name number) facing.now.pair
+        rows.now row.now)) }
 {
     if row.matches(&facing.pair) {
         let alloc = *out.allocator();
@@ -168,7 +176,8 @@ fn push_row(
 
 /// The notes on the rows of a node that are for the connection.
 fn push_rows(out: &mut Vec<u8>, facing: &Facing) -> Result<(), AllocError>
-    ensures { OnOk result (out.new.items ≡ out.old.items ++ rows_notes (facing_of facing.now) 1 facing.now.node.now.rows) }
+    ensures { OnOk result (out.new.items ≡ out.old.items ++ rows_notes (facing_of facing.now) 1
+        facing.now.node.now.rows) }
 {
     // It tells that a table has at most 64 rows, so that each number fits.
     let _count = facing.node.rows();

@@ -71,7 +71,8 @@ fn plan_lines(
     mut lines: SayingLines,
 ) -> Result<Planned, TextFault>
     requires { length lines ≤ most_lines }
-    ensures { Answers result (planned_from form (key_file_of keys.now) plan.now no_plan (said_by plan_pair_of lines.entry)) }
+    ensures { Answers result (planned_from form (key_file_of keys.now) plan.now no_plan
+        (said_by plan_pair_of lines.entry)) }
 {
     let mut out = Vec::new(alloc);
     let mut count = 0;
@@ -144,7 +145,8 @@ pub fn answer_plan(
     plan: Plan,
     input: &[u8],
 ) -> Result<Report, Stop>
-    ensures answer { Reports result (if_read (planned_answer form (key_file_of keys.now) plan) (said_in plan_pair_of input.now)) }
+    ensures answer { Reports result (if_read (planned_answer form (key_file_of keys.now) plan)
+        (said_in plan_pair_of input.now)) }
     ensures too_many { IsErrOf result (Stop.Input TextFault.TooManyLines) ↔ (most_lines < length (lines_of input.now)) }
 {
     let planned = plan_input(alloc, form, keys, &plan, input)?;

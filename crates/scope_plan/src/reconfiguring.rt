@@ -4,7 +4,10 @@ ghost use Rattle.std.specs.List.{find};
 ghost use Rattle.book_keys.specs.Plans.{accepts_from};
 ghost use Rattle.book_scope_plan.specs.CalendarTexts.{are_both_ends, row_numbered};
 ghost use Rattle.book_scope_plan.specs.FindingTexts.{text_if};
-ghost use Rattle.book_scope_plan.specs.Reconfiguring.{earliest_switch, is_timeless, is_unbounded, latest_switch, new_taker, no_switch_line, old_taker, reconfiguring_text, span_between, span_by, switch_line, switch_span, switch_text, takes_at, timeless_text, two_findings_text, two_rows_text};
+ghost use Rattle.book_scope_plan.specs.Reconfiguring.{earliest_switch, is_timeless, is_unbounded, latest_switch};
+ghost use Rattle.book_scope_plan.specs.Reconfiguring.{new_taker, no_switch_line, old_taker, reconfiguring_text};
+ghost use Rattle.book_scope_plan.specs.Reconfiguring.{span_between, span_by, switch_line, switch_span, switch_text};
+ghost use Rattle.book_scope_plan.specs.Reconfiguring.{takes_at, timeless_text, two_findings_text, two_rows_text};
 ghost use Rattle.scope_plan.specs.Facings.{facing_of};
 
 use crate::calendar::are_both_ends;
@@ -191,7 +194,8 @@ fn push_two_rows(
     first: &Row,
     second: &Row,
 ) -> Result<(), AllocError>
-    ensures { OnOk result (out.new.items ≡ out.old.items ++ text_if (is_timeless facing.now.pair first.now && is_timeless facing.now.pair second.now)
+    ensures { OnOk result (out.new.items ≡ out.old.items ++ text_if
+        (is_timeless facing.now.pair first.now && is_timeless facing.now.pair second.now)
         (switch_text (facing_of facing.now) one other
         (switch_span (facing_of facing.now) first.now second.now)
         (switch_span (facing_of facing.now) second.now first.now))) }
@@ -213,7 +217,8 @@ fn push_found_rows(
     first: Option<&Row>,
     second: Option<&Row>,
 ) -> Result<(), AllocError>
-    ensures { OnOk result (out.new.items ≡ out.old.items ++ two_rows_text (facing_of facing.now) one other (option_map (λ r. r.now) first.entry) (option_map (λ r. r.now) second.entry)) }
+    ensures { OnOk result (out.new.items ≡ out.old.items ++ two_rows_text (facing_of facing.now) one other
+        (option_map (λ r. r.now) first.entry) (option_map (λ r. r.now) second.entry)) }
 {
     match (first, second) {
         (Some(first), Some(second)) => push_two_rows(out, facing, one, other, first, second),

@@ -1,6 +1,7 @@
 //! What is said of a row that no row of the other end accepts.
 ghost use Rattle.std.specs.Prelude.{◌≡◌, ◌++◌, ◌||◌, ◌==◌, nat_lt, not, OnOk};
-ghost use Rattle.book_scope_plan.specs.DifferenceTexts.{are_told, ended_line, has_recv_id, nearest_lines, nearest_text, no_id_line};
+ghost use Rattle.book_scope_plan.specs.DifferenceTexts.{are_told, ended_line, has_recv_id, nearest_lines};
+ghost use Rattle.book_scope_plan.specs.DifferenceTexts.{nearest_text, no_id_line};
 ghost use Rattle.book_scope_plan.specs.FindingTexts.{fewest, text_if};
 ghost use Rattle.scope_plan.specs.Facings.{facing_of};
 
@@ -47,7 +48,8 @@ fn push_nearest_if(
     row: &Row,
     count: u8,
 ) -> Result<(), AllocError>
-    ensures { OnOk result (out.new.items ≡ out.old.items ++ text_if holds (nearest_lines (facing_of facing.now) row.now count 1 facing.now.other.now.rows)) }
+    ensures { OnOk result (out.new.items ≡ out.old.items ++ text_if holds
+        (nearest_lines (facing_of facing.now) row.now count 1 facing.now.other.now.rows)) }
 {
     if holds {
         push_nearest(out, facing, row, count)
@@ -58,7 +60,9 @@ fn push_nearest_if(
 
 /// In which columns the nearest rows of the other end differ.
 fn push_nearest_text(out: &mut Vec<u8>, facing: &Facing, row: &Row) -> Result<(), AllocError>
-    ensures { OnOk result (out.new.items ≡ out.old.items ++ nearest_text (facing_of facing.now) row.now (has_recv_id row.now.send_id facing.now.other.now.rows) (fewest facing.now.pair row.now 7 facing.now.other.now.rows)) }
+    ensures { OnOk result (out.new.items ≡ out.old.items ++ nearest_text (facing_of facing.now) row.now
+        (has_recv_id row.now.send_id facing.now.other.now.rows)
+        (fewest facing.now.pair row.now 7 facing.now.other.now.rows)) }
 {
     let rows = facing.other.entries();
     let has_id = has_recv_id(row.send_id(), rows);

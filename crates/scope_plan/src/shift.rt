@@ -1,7 +1,8 @@
 //! By how much the times of one end's rows are later than those of the other's.
 ghost use Rattle.std.specs.Prelude.{◌≡◌, ◌++◌, IfOk, OnOk, decimal};
 ghost use Rattle.std.specs.List.{list_any};
-ghost use Rattle.book_scope_plan.specs.Notes.{all_times, column_times, is_off, lifetime_times, row_times, shift_line, shift_of, shift_text, times_beside};
+ghost use Rattle.book_scope_plan.specs.Notes.{all_times, column_times, is_off, lifetime_times, row_times};
+ghost use Rattle.book_scope_plan.specs.Notes.{shift_line, shift_of, shift_text, times_beside};
 
 use crate::facing::Facing;
 use crate::reconfiguring::is_accepting_from;
@@ -40,7 +41,9 @@ fn add_lifetimes(
 
 /// The times of both lifetimes of two rows.
 fn add_both(times: &mut Vec<TwoTimes>, row: &Row, other: &Row) -> Result<(), AllocError>
-    ensures { OnOk result (times.new.items ≡ times.old.items ++ (lifetime_times row.now.sending other.now.sending ++ lifetime_times row.now.accepting other.now.accepting)) }
+    ensures { OnOk result
+        (times.new.items ≡ times.old.items ++ (lifetime_times row.now.sending other.now.sending
+        ++ lifetime_times row.now.accepting other.now.accepting)) }
 {
     add_lifetimes(times, row.sending(), other.sending())?;
     add_lifetimes(times, row.accepting(), other.accepting())
@@ -168,7 +171,9 @@ fn push_shift_text(
 
 /// That the times of the other end are all so much later, where they are.
 pub(crate) fn push_shift(out: &mut Vec<u8>, facing: &Facing) -> Result<(), AllocError>
-    ensures { OnOk result (out.new.items ≡ out.old.items ++ shift_text facing.now.node.now.name facing.now.other.now.name (shift_of (all_times facing.now.pair facing.now.node.now.rows facing.now.other.now.rows))) }
+    ensures { OnOk result (out.new.items ≡ out.old.items ++ shift_text facing.now.node.now.name
+        facing.now.other.now.name
+        (shift_of (all_times facing.now.pair facing.now.node.now.rows facing.now.other.now.rows))) }
 {
     let alloc = *out.allocator();
     let (rows, others) = (facing.node.entries(), facing.other.entries());

@@ -44,8 +44,11 @@ fn push_two_ways(
     at: u8,
     other: &Row,
 ) -> Result<bool, AllocError>
-    ensures text { OnOk result (out.new.items ≡ out.old.items ++ two_ways (facing_of facing.now) (sent_of sent.now) told at other.now) }
-    ensures told { IfOk result (λ t. t ≡ ((told || may_shorten (facing_of facing.now) (sent_of sent.now) other.now) || may_lengthen (facing_of facing.now) (sent_of sent.now) at other.now)) }
+    ensures text { OnOk result (out.new.items ≡ out.old.items
+        ++ two_ways (facing_of facing.now) (sent_of sent.now) told at other.now) }
+    ensures told { IfOk result
+        (λ t. t ≡ ((told || may_shorten (facing_of facing.now) (sent_of sent.now) other.now)
+        || may_lengthen (facing_of facing.now) (sent_of sent.now) at other.now)) }
 {
     push_lifetime(out, facing, at, sent.row, other)?;
     let sending = shorter(facing, sent.row, other);
@@ -63,7 +66,9 @@ fn push_accepting(
     at: u8,
     other: &Row,
 ) -> Result<bool, AllocError>
-    ensures text { OnOk result (out.new.items ≡ out.old.items ++ text_if (is_alike (differences facing.now.pair sent.now.row.now other.now)) (two_ways (facing_of facing.now) (sent_of sent.now) told at other.now)) }
+    ensures text { OnOk result (out.new.items ≡ out.old.items
+        ++ text_if (is_alike (differences facing.now.pair sent.now.row.now other.now))
+        (two_ways (facing_of facing.now) (sent_of sent.now) told at other.now)) }
     ensures told { IfOk result (λ t. t ≡ told_after (facing_of facing.now) (sent_of sent.now) told at other.now) }
 {
     let d = differences(&facing.pair, sent.row, other);
@@ -80,7 +85,8 @@ pub(crate) fn push_short(
     facing: &Facing,
     sent: &SentRow,
 ) -> Result<(), AllocError>
-    ensures { OnOk result (out.new.items ≡ out.old.items ++ accepting_lines (facing_of facing.now) (sent_of sent.now) false 1 facing.now.other.now.rows) }
+    ensures { OnOk result (out.new.items ≡ out.old.items ++ accepting_lines (facing_of facing.now) (sent_of sent.now)
+        false 1 facing.now.other.now.rows) }
 {
     // It tells that a table has at most 64 rows, so that each number fits.
     let _count = facing.other.rows();

@@ -1,6 +1,7 @@
 //! The turns of a calendar as they are told.
 ghost use Rattle.std.specs.Prelude.{◌≡◌, ◌++◌, option_map, IfOk, OnOk};
-ghost use Rattle.book_scope_plan.specs.CalendarTexts.{id_for, is_spent, row_numbered, row_turn_text, side_of, spent_text, told_turns, told_with, turn_words};
+ghost use Rattle.book_scope_plan.specs.CalendarTexts.{id_for, is_spent, row_numbered, row_turn_text, side_of};
+ghost use Rattle.book_scope_plan.specs.CalendarTexts.{spent_text, told_turns, told_with, turn_words};
 
 use ao_base::push_decimal;
 use book_base::Bytes;
@@ -76,7 +77,8 @@ fn add_told(
     ends: &Connected,
     turn: &Turn,
 ) -> Result<(), AllocError>
-    ensures { OnOk result (told.new.items ≡ told.old.items ++ told_with (turn_words turn.now.role turn.now.begins) (row_numbered (side_of turn.now.end ends.now.tables.a.now ends.now.tables.b.now).rows turn.now.row) turn.now) }
+    ensures { OnOk result (told.new.items ≡ told.old.items ++ told_with (turn_words turn.now.role turn.now.begins)
+        (row_numbered (side_of turn.now.end ends.now.tables.a.now ends.now.tables.b.now).rows turn.now.row) turn.now) }
 {
     let words = match turn_words(turn.role, turn.begins) {
         Some(words) => words,

@@ -5,7 +5,8 @@ ghost use Rattle.book_keys.specs.Rows.{row_limit};
 ghost use Rattle.book_plans.specs.Ways.{accepting_obstacle};
 ghost use Rattle.key_plan.specs.Sides.{side_of};
 ghost use Rattle.book_scope_plan.specs.FindingTexts.{row_name, text_if};
-ghost use Rattle.book_scope_plan.specs.WayTexts.{accepting_line, is_clear, moved_text, obstacle_text, sending_line, sending_way, set_text, set_words, side_facing, way_line};
+ghost use Rattle.book_scope_plan.specs.WayTexts.{accepting_line, is_clear, moved_text, obstacle_text, sending_line};
+ghost use Rattle.book_scope_plan.specs.WayTexts.{sending_way, set_text, set_words, side_facing, way_line};
 ghost use Rattle.scope_plan.specs.Facings.{facing_of};
 
 use crate::facing::Facing;
@@ -114,7 +115,9 @@ fn push_obstacle_end(out: &mut Vec<u8>, obstacle: Obstacle) -> Result<(), AllocE
 
 /// What stands in the way of a change.
 fn push_stuck(out: &mut Vec<u8>, change: &[u8], obstacle: Obstacle) -> Result<(), AllocError>
-    ensures { OnOk result (out.new.items ≡ out.old.items ++ (codes "    moving " ++ (change.now ++ (codes " won't do: " ++ (obstacle_text obstacle ++ codes "\n"))))) }
+    ensures { OnOk result
+        (out.new.items ≡ out.old.items ++ (codes "    moving "
+        ++ (change.now ++ (codes " won't do: " ++ (obstacle_text obstacle ++ codes "\n"))))) }
 {
     out.extend_from_slice(b"    moving ")?;
     out.extend_from_slice(change)?;
@@ -223,7 +226,8 @@ fn accepting_change(
     accepting: Lifetime,
 ) -> Result<Vec<u8>, AllocError>
     ensures { IfOk result (λ text. text.items ≡ moved_text (codes "AcceptLifetimeStart") (codes "AcceptLifetimeEnd")
-        (row_name (table_view facing.now.document.now) facing.now.other.now.name number) other.now.accepting accepting) }
+        (row_name (table_view facing.now.document.now) facing.now.other.now.name number) other.now.accepting
+        accepting) }
 {
     let name = row_name(alloc, facing.document, facing.other.name(), number)?;
     let start = b"AcceptLifetimeStart";
@@ -250,8 +254,10 @@ pub(crate) fn push_sending_line(
     row: &Row,
     sending: Lifetime,
 ) -> Result<bool, AllocError>
-    ensures text { OnOk result (out.new.items ≡ out.old.items ++ sending_line (facing_of facing.now) told number row.now sending) }
-    ensures told { IfOk result (λ t. t ≡ (told || is_clear (sending_way (facing_of facing.now) number row.now sending))) }
+    ensures text { OnOk result (out.new.items ≡ out.old.items
+        ++ sending_line (facing_of facing.now) told number row.now sending) }
+    ensures told { IfOk result
+        (λ t. t ≡ (told || is_clear (sending_way (facing_of facing.now) number row.now sending))) }
 {
     let alloc = *out.allocator();
     let obstacle = sending_way(alloc, facing, number, row, sending)?;
@@ -270,8 +276,10 @@ pub(crate) fn push_accepting_line(
     other: &Row,
     accepting: Lifetime,
 ) -> Result<bool, AllocError>
-    ensures text { OnOk result (out.new.items ≡ out.old.items ++ accepting_line (facing_of facing.now) told number other.now accepting) }
-    ensures told { IfOk result (λ t. t ≡ (told || is_clear (accepting_obstacle facing.now.other.now.rows number other.now accepting))) }
+    ensures text { OnOk result (out.new.items ≡ out.old.items
+        ++ accepting_line (facing_of facing.now) told number other.now accepting) }
+    ensures told { IfOk result
+        (λ t. t ≡ (told || is_clear (accepting_obstacle facing.now.other.now.rows number other.now accepting))) }
 {
     let alloc = *out.allocator();
     let obstacle = accepting_way(facing, number, other, accepting);

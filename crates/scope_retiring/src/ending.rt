@@ -1,7 +1,8 @@
 //! How the connection of segments ends, by the uses of its session.
 ghost use Rattle.std.specs.Prelude.{◌≡◌, ◌&&◌, ◌||◌, nat_lt};
 ghost use Rattle.std.specs.List.{slice_get};
-ghost use Rattle.book_sessions.specs.Retiring.{and_ending, ending_by, fits_peer, if_both, both_finished, is_ended, is_onward, is_other_side, is_return, is_this_side, with_mark};
+ghost use Rattle.book_sessions.specs.Retiring.{and_ending, ending_by, fits_peer, if_both, both_finished, is_ended};
+ghost use Rattle.book_sessions.specs.Retiring.{is_onward, is_other_side, is_return, is_this_side, with_mark};
 ghost use Rattle.session_index.specs.Places.{uses_at};
 ghost use Rattle.scope_retiring.specs.AtPlaces.{ending_found};
 

@@ -23,7 +23,8 @@ fn knows_both(isns: Option<FlowIsns>) -> bool
 
 // Whether the second go between the sockets of the first, in either direction.
 fn is_alongside(one: &KeyUse, other: &KeyUse) -> bool
-    ensures { result ≡ (goes_from one.now.source one.now.destination other.now || goes_from one.now.destination one.now.source other.now) }
+    ensures { result ≡ (goes_from one.now.source one.now.destination other.now
+        || goes_from one.now.destination one.now.source other.now) }
 {
     goes_from(&one.source, &one.destination, other)
         || goes_from(&one.destination, &one.source, other)

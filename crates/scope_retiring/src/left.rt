@@ -3,7 +3,8 @@ ghost use Rattle.std.specs.Prelude.{◌≡◌, ◌≤◌, ◌&&◌, ◌||◌, le
 ghost use Rattle.std.specs.List.{list_all};
 ghost use Rattle.book_keys.specs.Plans.{same_key};
 ghost use Rattle.book_keys.specs.Rows.{row_limit, sends_for};
-ghost use Rattle.book_sessions.specs.Retiring.{all_left, between, contain_rest, is_partner, is_same_row, leaves_both, leaves_peer, leaves_rows, leaves_use, sent_by, sent_to};
+ghost use Rattle.book_sessions.specs.Retiring.{all_left, between, contain_rest, is_partner, is_same_row};
+ghost use Rattle.book_sessions.specs.Retiring.{leaves_both, leaves_peer, leaves_rows, leaves_use, sent_by, sent_to};
 ghost use Rattle.scope_retiring.specs.Gone.{goes_with};
 
 use crate::evidence::Evidence;
@@ -81,7 +82,8 @@ fn is_replaced(
     from: u64,
     other: &Row,
 ) -> bool
-    ensures { result ≡ (not (sends_for pair.now other.now && goes_with going one.now other.now) || contain_rest lifetimes.now from other.now.sending) }
+    ensures { result ≡ (not (sends_for pair.now other.now && goes_with going one.now other.now)
+        || contain_rest lifetimes.now from other.now.sending) }
 {
     !is_lost(going, one, pair, other) || contain_rest(lifetimes, from, other.sending())
 }
@@ -95,7 +97,8 @@ fn are_replaced(
     pair: &Pair,
     from: u64,
 ) -> bool
-    ensures { result ≡ list_all (λ r. not (sends_for pair.now r && goes_with going one.now r) || contain_rest lifetimes.now from r.sending) rows.now }
+    ensures { result ≡ list_all (λ r. not (sends_for pair.now r && goes_with going one.now r)
+        || contain_rest lifetimes.now from r.sending) rows.now }
 {
     for other in rows {
         if !is_replaced(lifetimes, going, one, pair, from, other) {
@@ -154,7 +157,8 @@ fn leaves_both(tables: &Tables, table: &Table, row: &Row, pair: &Pair, from: u64
 }
 
 fn leaves_sender(tables: &Tables, table: &Table, row: &Row, from: u64, one: &KeyUse) -> bool
-    ensures { result ≡ (not (sent_by table.now row.now one.now) || leaves_both tables.now table.now row.now (between one.now.source one.now.destination) from) }
+    ensures { result ≡ (not (sent_by table.now row.now one.now)
+        || leaves_both tables.now table.now row.now (between one.now.source one.now.destination) from) }
 {
     !sent_by(table, row, one)
         || leaves_both(
@@ -167,7 +171,8 @@ fn leaves_sender(tables: &Tables, table: &Table, row: &Row, from: u64, one: &Key
 }
 
 fn leaves_receiver(tables: &Tables, table: &Table, row: &Row, from: u64, one: &KeyUse) -> bool
-    ensures { result ≡ (not (sent_to table.now row.now one.now) || leaves_both tables.now table.now row.now (between one.now.destination one.now.source) from) }
+    ensures { result ≡ (not (sent_to table.now row.now one.now)
+        || leaves_both tables.now table.now row.now (between one.now.destination one.now.source) from) }
 {
     !sent_to(table, row, one)
         || leaves_both(

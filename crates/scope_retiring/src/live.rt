@@ -45,7 +45,8 @@ fn is_live(index: &SessionIndex, one: &KeyUse) -> bool
 
 // Puts the segments behind others, if they are chosen.
 fn push_chosen(out: &mut Vec<KeyUse>, chosen: bool, one: &KeyUse) -> Result<(), AllocError>
-    ensures { (others : List Use) → OnOk result (out.new.items ++ others ≡ out.old.items ++ cond chosen (one.now ∷ others) others) }
+    ensures { (others : List Use)
+        → OnOk result (out.new.items ++ others ≡ out.old.items ++ cond chosen (one.now ∷ others) others) }
 {
     if chosen {
         out.push(*one)?;
@@ -56,7 +57,9 @@ fn push_chosen(out: &mut Vec<KeyUse>, chosen: bool, one: &KeyUse) -> Result<(), 
 // Puts the segments behind others, if they are of a connection that goes on.
 fn push_live(out: &mut Vec<KeyUse>, index: &SessionIndex, one: &KeyUse) -> Result<(), AllocError>
     requires { HasSession index.now.uses one.now }
-    ensures { (others : List Use) → OnOk result (out.new.items ++ others ≡ out.old.items ++ cond (is_live index.now.uses one.now) (one.now ∷ others) others) }
+    ensures { (others : List Use)
+        → OnOk result (out.new.items ++ others ≡ out.old.items
+        ++ cond (is_live index.now.uses one.now) (one.now ∷ others) others) }
 {
     push_chosen(out, is_live(index, one), one)
 }

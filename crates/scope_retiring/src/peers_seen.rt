@@ -49,7 +49,9 @@ fn add_chosen(
     row: &Row,
     one: &KeyUse,
 ) -> Result<(), AllocError>
-    ensures { OnOk result (found.new.items ≡ (if chosen then with_address (peer_address table.now row.now one.now) found.old.items else found.old.items)) }
+    ensures { OnOk result
+        (found.new.items
+        ≡ (if chosen then with_address (peer_address table.now row.now one.now) found.old.items else found.old.items)) }
 {
     if chosen {
         add_address(found, peer_of(table, row, one))
@@ -66,7 +68,8 @@ fn peer_addresses(
     table: &Table,
     row: &Row,
 ) -> Result<Vec<Address>, AllocError>
-    ensures { IfOk result (λ v. v.items ≡ addresses_of (shows_peer evidence.now.uses table.now row.now None) (peer_address table.now row.now) evidence.now.live) }
+    ensures { IfOk result (λ v. v.items ≡ addresses_of (shows_peer evidence.now.uses table.now row.now None)
+        (peer_address table.now row.now) evidence.now.live) }
 {
     let mut found = Vec::new(alloc);
     let live = evidence.live();

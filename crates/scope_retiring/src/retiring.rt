@@ -11,7 +11,8 @@ use key_table::{Row, Table, Tables};
 
 // Whether all who may use the row were seen, and do without it.
 fn is_unused(evidence: &Evidence, table: &Table, number: u64, row: &Row) -> bool
-    ensures { result ≡ (sees_peers evidence.now.uses evidence.now.live table.now row.now && all_without evidence.now table.now number row.now) }
+    ensures { result ≡ (sees_peers evidence.now.uses evidence.now.live table.now row.now
+        && all_without evidence.now table.now number row.now) }
 {
     sees_peers(evidence, table, row) && all_without(evidence, table, number, row)
 }
@@ -35,9 +36,9 @@ fn is_dispensable(
     is_unused(evidence, table, number, row) && is_spared(evidence, tables, table, row)
 }
 
-/// Whether row number `number` of a node may go: Yes where each peer that it names was seen in a connection
-/// that goes on and that no other followed, both sides of all of these do without it, the rows that are left send in its place, and no
-/// packet was passed over that may be a segment; No where a verified segment of a connection that goes on
+/// Whether row number `number` of a node may go: Yes where each peer that it names was seen in a connection that goes
+/// on and that no other followed, both sides of all of these do without it, the rows that are left send in its place,
+/// and no packet was passed over that may be a segment; No where a verified segment of a connection that goes on
 /// wants it still; and else Unknown.
 #[tactic(auto, unfolding(book_sessions::specs::Retiring::may_go))]
 pub fn may_go(evidence: &Evidence, tables: &Tables, table: &Table, number: u64, row: &Row) -> MayGo

@@ -1,7 +1,9 @@
 //! Which segments a row of a key file is for, and which want it.
 ghost use Rattle.std.specs.Prelude.{◌≡◌, ◌&&◌, nat_le, not};
 ghost use Rattle.std.specs.List.{list_any};
-ghost use Rattle.book_sessions.specs.Retiring.{asks_for_row, between, came_under, carries_row, is_at_row, is_for, is_id, is_outlived, is_sent_anew, is_taken_anew, may_be_sent, may_be_taken, sent_by, sent_to, wants_row};
+ghost use Rattle.book_sessions.specs.Retiring.{asks_for_row, between, came_under, carries_row, is_at_row, is_for};
+ghost use Rattle.book_sessions.specs.Retiring.{is_id, is_outlived, is_sent_anew, is_taken_anew, may_be_sent};
+ghost use Rattle.book_sessions.specs.Retiring.{may_be_taken, sent_by, sent_to, wants_row};
 
 use ao_base::is_same_address;
 use book_base::{Pair, Socket};
@@ -60,13 +62,17 @@ fn is_outlived(lifetime: Lifetime, one: &KeyUse) -> bool
 }
 
 fn is_sent_on(table: &Table, pair: &Pair, found: Option<u8>, one: &KeyUse, row: &Row) -> bool
-    ensures { result ≡ (is_for table.now row.now pair.now && (is_id found row.now.send_id && nat_le one.now.last row.now.sending.last)) }
+    ensures { result
+        ≡ (is_for table.now row.now pair.now && (is_id found row.now.send_id
+        && nat_le one.now.last row.now.sending.last)) }
 {
     is_for(table, row, pair) && (is_id(found, row.send_id()) && one.last <= row.sending().last)
 }
 
 fn is_taken_on(table: &Table, pair: &Pair, found: Option<u8>, one: &KeyUse, row: &Row) -> bool
-    ensures { result ≡ (is_for table.now row.now pair.now && (is_id found row.now.recv_id && nat_le one.now.last row.now.accepting.last)) }
+    ensures { result
+        ≡ (is_for table.now row.now pair.now && (is_id found row.now.recv_id
+        && nat_le one.now.last row.now.accepting.last)) }
 {
     is_for(table, row, pair) && (is_id(found, row.recv_id()) && one.last <= row.accepting().last)
 }
@@ -131,7 +137,9 @@ fn is_sent_with(table: &Table, row: &Row, one: &KeyUse) -> bool
 }
 
 fn is_taken_under(table: &Table, number: u64, row: &Row, one: &KeyUse) -> bool
-    ensures { result ≡ (sent_to table.now row.now one.now && (is_id one.now.key_id row.now.recv_id && came_under table.now number row.now one.now one.now.row)) }
+    ensures { result
+        ≡ (sent_to table.now row.now one.now && (is_id one.now.key_id row.now.recv_id
+        && came_under table.now number row.now one.now one.now.row)) }
 {
     sent_to(table, row, one)
         && (is_id(one.key_id, row.recv_id()) && came_under(table, number, row, one, one.row))

@@ -41,7 +41,8 @@ fn wanting_one(
     one: &KeyUse,
     wanting: Wanting,
 ) -> Wanting
-    ensures { result ≡ wanting_found (wants_row table.now number row.now) source.now destination.now (Some one.now) wanting }
+    ensures { result ≡ wanting_found (wants_row table.now number row.now) source.now destination.now (Some one.now)
+        wanting }
 {
     if goes_from(source, destination, one) {
         and_wanting(wants_row(table, number, row, one), one, wanting)
@@ -61,7 +62,8 @@ fn wanting_with(
     place: usize,
     wanting: Wanting,
 ) -> Wanting
-    ensures { result ≡ wanting_found (wants_row table.now number row.now) source.now destination.now (slice_get uses.now place) wanting }
+    ensures { result ≡ wanting_found (wants_row table.now number row.now) source.now destination.now
+        (slice_get uses.now place) wanting }
 {
     match uses.get(place) {
         None => wanting,
@@ -79,7 +81,8 @@ pub(crate) fn wanting_among(
     uses: &[KeyUse],
     places: &[usize],
 ) -> Wanting
-    ensures { result ≡ wanting_by (wants_row table.now number row.now) source.now destination.now (uses_at uses.now places.now) }
+    ensures { result ≡ wanting_by (wants_row table.now number row.now) source.now destination.now
+        (uses_at uses.now places.now) }
 {
     let mut wanting = Wanting {
         wanted: 0,

@@ -2,7 +2,8 @@
 ghost use Rattle.std.specs.Prelude.{◌≡◌, ◌||◌, ◌&&◌, not};
 ghost use Rattle.std.specs.List.{list_all, list_any};
 ghost use Rattle.book_sessions.specs.OutcomeTexts.{is_verified};
-ghost use Rattle.book_sessions.specs.Retiring.{all_without, both_without, does_without, goes_without, is_at_row, is_in_use, wanting_by, wants_row};
+ghost use Rattle.book_sessions.specs.Retiring.{all_without, both_without, does_without, goes_without, is_at_row};
+ghost use Rattle.book_sessions.specs.Retiring.{is_in_use, wanting_by, wants_row};
 ghost use Rattle.scope_retiring.specs.Known.{HasSession, Knows};
 
 use crate::evidence::Evidence;
@@ -71,7 +72,8 @@ pub fn returns_without(
     one: &KeyUse,
 ) -> bool
     requires { HasSession evidence.now.uses one.now }
-    ensures { result ≡ does_without (wants_row table.now number row.now) one.now.destination one.now.source evidence.now.uses }
+    ensures { result ≡ does_without (wants_row table.now number row.now) one.now.destination one.now.source
+        evidence.now.uses }
 {
     let wanting = wanting_by(
         evidence,
@@ -97,7 +99,8 @@ fn both_without(evidence: &Evidence, table: &Table, number: u64, row: &Row, one:
 // Whether these aren't at the row, or both sides of them do without it.
 fn is_without(evidence: &Evidence, table: &Table, number: u64, row: &Row, one: &KeyUse) -> bool
     requires { HasSession evidence.now.uses one.now }
-    ensures { result ≡ (not (is_at_row table.now row.now one.now) || both_without (wants_row table.now number row.now) evidence.now.uses one.now) }
+    ensures { result ≡ (not (is_at_row table.now row.now one.now)
+        || both_without (wants_row table.now number row.now) evidence.now.uses one.now) }
 {
     !is_at_row(table, row, one) || both_without(evidence, table, number, row, one)
 }

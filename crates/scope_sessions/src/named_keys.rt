@@ -190,8 +190,8 @@ fn all_told(answers: &[MayGo]) -> Retiring
     }
 }
 
-/// Puts the lines of the rows that the word names behind `out`, and answers whether all of them may go. An error for want
-/// of memory alone; then a part of the lines may stand there.
+/// Puts the lines of the rows that the word names behind `out`, and answers whether all of them may go. An error for
+/// want of memory alone; then a part of the lines may stand there.
 pub(crate) fn push_retiring(
     alloc: Global,
     out: &mut Vec<u8>,

@@ -49,10 +49,10 @@ fn write_counted<O: Sink>(
     }
 }
 
-/// Writes what a table of the sessions of a capture says of the rows of a key file that a word names: the AdminKeyName of
-/// a row, or its SendID or RecvID in decimal. The capture is judged, and all ends early, as with
-/// [`write_sessions`](crate::write_sessions) where no table is asked for in front of a packet. Ok at the capture's end, and
-/// whether there are such rows, and all of them may go.
+/// Writes what a table of the sessions of a capture says of the rows of a key file that a word names: the
+/// AdminKeyName of a row, or its SendID or RecvID in decimal. The capture is judged, and all ends early, as with
+/// [`write_sessions`](crate::write_sessions) where no table is asked for in front of a packet. Ok at the capture's
+/// end, and whether there are such rows, and all of them may go.
 pub fn write_retiring<I: Source, O: Sink>(
     alloc: Global,
     word: &[u8],

@@ -47,14 +47,13 @@ fn write_counted<O: Sink>(
     }
 }
 
-/// Writes the tables of the sessions of a capture that are asked for, judged by the tables of a key file as
-/// behind handshakes with the initial sequence numbers that lines give, and of each key of these tables who
-/// used it last and whether anyone asks for it. Where a MAC is wrong as it stands the segment is judged over
-/// so many laps of the sequence space more; where no handshake is verified, by initial sequence numbers that
-/// were seen, as unconfirmed. Each table that is due in front of a packet is written before
-/// that packet is counted, the last one at the end. Ok at the capture's end, and whether anything is amiss: of
-/// the sessions that aren't foreign to the key file a segment that isn't verified, or no such session at all; or a packet
-/// that is passed over and may be a segment.
+/// Writes the tables of the sessions of a capture that are asked for, judged by the tables of a key file as behind
+/// handshakes with the initial sequence numbers that lines give, and of each key of these tables who used it last and
+/// whether anyone asks for it. Where a MAC is wrong as it stands the segment is judged over so many laps of the
+/// sequence space more; where no handshake is verified, by initial sequence numbers that were seen, as unconfirmed.
+/// Each table that is due in front of a packet is written before that packet is counted, the last one at the end. Ok
+/// at the capture's end, and whether anything is amiss: of the sessions that aren't foreign to the key file a segment
+/// that isn't verified, or no such session at all; or a packet that is passed over and may be a segment.
 ///
 /// Each given line that says something is `ADDRESS PORT ISN ADDRESS PORT ISN`: two sockets of one version of
 /// IP that differ, with addresses in their usual form, each with its initial sequence number.

@@ -1,6 +1,7 @@
 //! Times as text.
 ghost use Rattle.std.specs.Prelude.{◌≡◌, ◌<◌, ◌++◌, ◌∷◌, [], OnOk};
-ghost use Rattle.book_scope_texts.specs.Instants.{calendar_day, clock_text, day_text, four_digits, instant_text, key_time_text, two_digits};
+ghost use Rattle.book_scope_texts.specs.Instants.{calendar_day, clock_text, day_text, four_digits, instant_text};
+ghost use Rattle.book_scope_texts.specs.Instants.{key_time_text, two_digits};
 
 use ao_base::push_decimal;
 use book_keys::LATEST;

@@ -12,6 +12,7 @@ ghost use Rattle.segment_writer.specs.Heads.{head_for};
 /// of the draft in its written form.
 #[tactic(auto, using(crate::proofs::HeadLaws::drafts_are))]
 pub fn heads_are_drafts()
-    ensures { (pair : Pair) (s : EndState) (draft : Draft) (chosen : Sending) (m : List ℕ) → length m ≡ mac_length_of chosen.row.algorithm
+    ensures { (pair : Pair) (s : EndState) (draft : Draft) (chosen : Sending) (m : List ℕ)
+        → length m ≡ mac_length_of chosen.row.algorithm
         → drafted (head_for pair s draft chosen) m draft.payload ≡ written pair s draft chosen m }
 {}

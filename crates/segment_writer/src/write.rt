@@ -52,16 +52,21 @@ pub fn write_segment<L: Ledger>(
     requires fits { Fits table.now.rows association.old }
     requires low { 1 ≤ sending.now.row }
     requires high { sending.now.row ≤ length table.now.rows }
-    requires size { (d : Row) → size_of pair.now outgoing.now (slice_index_or table.now.rows (sending.now.row - 1) d) ≤ 1500 }
-    ensures length { (d : Row) → result.length ≡ size_of pair.now outgoing.now (slice_index_or table.now.rows (sending.now.row - 1) d) }
-    ensures emits { (s : EndState) (draft : Draft) (chosen : Chosen) → IsOf outgoing.now association.old table.now.rows sending.now s draft chosen
+    requires size { (d : Row) → size_of pair.now outgoing.now (slice_index_or table.now.rows (sending.now.row - 1) d)
+        ≤ 1500 }
+    ensures length { (d : Row) → result.length ≡ size_of pair.now outgoing.now
+        (slice_index_or table.now.rows (sending.now.row - 1) d) }
+    ensures emits { (s : EndState) (draft : Draft) (chosen : Chosen)
+        → IsOf outgoing.now association.old table.now.rows sending.now s draft chosen
         → made_under pair.now s chosen draft ≡ Emits (sealed pair.now s draft chosen (bytes_of result.context)) }
-    ensures written { (s : EndState) (draft : Draft) (chosen : Chosen) → IsOf outgoing.now association.old table.now.rows sending.now s draft chosen
+    ensures written { (s : EndState) (draft : Draft) (chosen : Chosen)
+        → IsOf outgoing.now association.old table.now.rows sending.now s draft chosen
         → IsWritten (sealed pair.now s draft chosen (bytes_of result.context)).segment result.length out.old out.new }
     ensures same { association.new ≡ record association.old { keys = association.new.keys } }
     ensures fits { Fits table.now.rows association.new }
     ensures most { steps.new ≤ steps.old + 1 }
-    ensures counted { Counted association.old.keys association.new.keys (Some sending.now.row) true Outbound (sets outgoing.now.flags SYN) steps.old steps.new }
+    ensures counted { Counted association.old.keys association.new.keys (Some sending.now.row) true Outbound
+        (sets outgoing.now.flags SYN) steps.old steps.new }
 {
     let mac_length = table.row(sending.row).algorithm().mac_length();
     let head = head_of(pair, outgoing, sending, mac_length);

@@ -8,7 +8,8 @@ ghost use Rattle.book_base.specs.Orders.{by_pair, sorted_pair};
 ghost use Rattle.book_sessions.specs.declared.uses.KeyUse.{KeyUse as Use};
 ghost use Rattle.session_index.specs.Groups.{CountsAgain, CountsNext, CountsSegment, IsIndexed, lists_of};
 ghost use Rattle.book_sessions.specs.Sessions.{signs_of};
-ghost use Rattle.session_index.specs.Places.{and_found, is_use_found, number_between, place_among, reached_among, reached_with, uses_at};
+ghost use Rattle.session_index.specs.Places.{and_found, is_use_found, number_between, place_among, reached_among};
+ghost use Rattle.session_index.specs.Places.{reached_with, uses_at};
 
 use crate::segment::{first_use, is_use_of, used_again};
 use crate::signs::{greater_of, is_flow_of, signs_at};
@@ -116,7 +117,8 @@ fn count_next(
     signs: Signs,
     segment: &SeenSegment,
 ) -> Result<(), AllocError>
-    ensures counted { OnOk result (CountsNext number signs segment.now uses.old.items uses.new.items places.old.items places.new.items) }
+    ensures counted { OnOk result (CountsNext number signs segment.now uses.old.items uses.new.items places.old.items
+        places.new.items) }
     ensures unchanged { OnErr result ((uses.new.items ≡ uses.old.items) × (places.new.items ≡ places.old.items)) }
 {
     uses.reserve(1)?;
@@ -127,7 +129,8 @@ fn count_next(
 
 /// The number that is kept for the two sockets of a segment.
 pub(crate) fn number_of(numbers: &BTreeMap<Pair, usize>, segment: &SeenSegment) -> Option<usize>
-    ensures { result ≡ lookup (is_at (by_pair (sorted_pair segment.now.source segment.now.destination))) numbers.now.entries }
+    ensures { result ≡ lookup (is_at (by_pair (sorted_pair segment.now.source segment.now.destination)))
+        numbers.now.entries }
 {
     numbers
         .get(&Pair::sorted(segment.source, segment.destination))
@@ -147,8 +150,10 @@ pub(crate) fn count_known(
     requires most { number ≤ length groups.old.items }
     ensures counted { (numbers : List (Ends × ℕ)) → IsIndexed uses.old.items (lists_of groups.old.items) numbers
         → number_between segment.now.source segment.now.destination uses.old.items ≡ Some number
-        → OnOk result (CountsSegment number signs segment.now uses.old.items uses.new.items (lists_of groups.new.items) numbers) }
-    ensures unchanged { OnErr result ((uses.new.items ≡ uses.old.items) × (lists_of groups.new.items ≡ lists_of groups.old.items)) }
+        → OnOk result (CountsSegment number signs segment.now uses.old.items uses.new.items (lists_of groups.new.items)
+        numbers) }
+    ensures unchanged { OnErr result ((uses.new.items ≡ uses.old.items)
+        × (lists_of groups.new.items ≡ lists_of groups.old.items)) }
     ensures size { length groups.new.items ≡ length groups.old.items }
 {
     let group = number - 1;
@@ -169,9 +174,11 @@ pub(crate) fn count_first(
 ) -> Result<(), AllocError>
     ensures counted { IsIndexed uses.old.items (lists_of groups.old.items) numbers.old.entries
         → number_between segment.now.source segment.now.destination uses.old.items ≡ None
-        → OnOk result (CountsSegment (length groups.old.items + 1) signs segment.now uses.old.items uses.new.items (lists_of groups.new.items) numbers.new.entries) }
+        → OnOk result (CountsSegment (length groups.old.items + 1) signs segment.now uses.old.items uses.new.items
+        (lists_of groups.new.items) numbers.new.entries) }
     ensures size { OnOk result (length groups.new.items ≡ length groups.old.items + 1) }
-    ensures unchanged { OnErr result ((uses.new.items ≡ uses.old.items) × ((groups.new.items ≡ groups.old.items) × (numbers.new.entries ≡ numbers.old.entries))) }
+    ensures unchanged { OnErr result ((uses.new.items ≡ uses.old.items)
+        × ((groups.new.items ≡ groups.old.items) × (numbers.new.entries ≡ numbers.old.entries))) }
 {
     let mut places = Vec::new(alloc);
     places.push(uses.len())?;
@@ -186,7 +193,8 @@ pub(crate) fn count_first(
 
 // Puts the use at this place behind others, if there is one.
 fn push_at(out: &mut Vec<KeyUse>, uses: &[KeyUse], place: usize) -> Result<(), AllocError>
-    ensures { (others : List Use) → OnOk result (out.new.items ++ others ≡ out.old.items ++ and_found (slice_get uses.now place) others) }
+    ensures { (others : List Use)
+        → OnOk result (out.new.items ++ others ≡ out.old.items ++ and_found (slice_get uses.now place) others) }
 {
     match uses.get(place) {
         None => Ok(()),

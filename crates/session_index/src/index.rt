@@ -14,10 +14,10 @@ use std::alloc::{AllocError, Global};
 use std::collections::BTreeMap;
 use std::marker::Model;
 
-/// A table of sessions: what its segments use, in the order in which it was first used, what was passed
-/// over, how many sessions there are, and how many segments have no header checksum; seen as that table. The uses of a session are found by its two
-/// sockets and by its number, so that a segment costs one look-up among the sessions and a walk over the
-/// uses of its own. Memory grows with uses, and not with segments.
+/// A table of sessions: what its segments use, in the order in which it was first used, what was passed over, how
+/// many sessions there are, and how many segments have no header checksum; seen as that table. The uses of a session
+/// are found by its two sockets and by its number, so that a segment costs one look-up among the sessions and a walk
+/// over the uses of its own. Memory grows with uses, and not with segments.
 #[derive(Drop)]
 pub struct SessionIndex {
     uses: Vec<KeyUse>,
@@ -34,7 +34,12 @@ impl Model for SessionIndex {
 
     ghost Value = { SessionTable };
 
-    ghost view = { λ x. record { sessions = length x.groups.items; uses = x.uses.items; passed = x.passed.items; unset = x.unset } };
+    ghost view = { λ x. record {
+      sessions = length x.groups.items;
+      uses = x.uses.items;
+      passed = x.passed.items;
+      unset = x.unset;
+    } };
 
     ghost invariant = { λ x. IsIndexed x.uses.items (lists_of x.groups.items) x.numbers.entries };
 }
@@ -108,7 +113,8 @@ impl SessionIndex {
     /// Counts a segment; it begins another session where none is known between its sockets. After an error
     /// nothing has changed: it comes for want of memory, or where 2^64 - 1 segments of its kind are counted.
     pub fn count_segment(&mut self, alloc: Global, segment: &SeenSegment) -> Result<(), AllocError>
-        ensures counted { OnOk result (self.new ≡ and_segment (session_of segment.now self.old.uses) segment.now self.old) }
+        ensures counted { OnOk result (self.new ≡ and_segment (session_of segment.now self.old.uses) segment.now
+            self.old) }
         ensures unchanged { OnErr result (self.new ≡ self.old) }
     {
         match number_of(&self.numbers, segment) {

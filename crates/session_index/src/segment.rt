@@ -1,6 +1,7 @@
 //! A segment as one of those that are counted together.
 ghost use Rattle.std.specs.Prelude.{◌≡◌, IfSome};
-ghost use Rattle.book_sessions.specs.Sessions.{asked_by, carries_ids_of, first_use, is_use_of, key_id_of, marked, passed_as, passed_row, used_again};
+ghost use Rattle.book_sessions.specs.Sessions.{asked_by, carries_ids_of, first_use, is_use_of, key_id_of, marked};
+ghost use Rattle.book_sessions.specs.Sessions.{passed_as, passed_row, used_again};
 
 use crate::signs::{after_of, goes_as, is_same_flow, isns_of};
 use crate::words::{is_same_id, is_same_outcome, is_same_protection};

@@ -1,6 +1,7 @@
 //! What a segment shows of its connection.
 ghost use Rattle.std.specs.Prelude.{◌≡◌, ◌&&◌};
-ghost use Rattle.book_sessions.specs.Sessions.{after_of, greater_of, goes_as, goes_past, if_passed, is_flow_of, isns_of, knows_both, resets_at, same_flow, same_id, signs_at};
+ghost use Rattle.book_sessions.specs.Sessions.{after_of, greater_of, goes_as, goes_past, if_passed, is_flow_of};
+ghost use Rattle.book_sessions.specs.Sessions.{isns_of, knows_both, resets_at, same_flow, same_id, signs_at};
 
 use book_sessions::{FlowIsns, KeyUse, SeenBits, SeenPass, SeenSegment, Signs};
 

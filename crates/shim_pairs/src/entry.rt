@@ -68,7 +68,8 @@ impl Entry {
         ensures told { IfOk result (λ p. Tells now self.old.guard.kept self.new p) }
         ensures refused { IfErr result (λ why. inbound (setting table.now.rows now mtu) self.old.guard.pair
             self.old.guard.kept bytes.now ≡ Err why) }
-        ensures unchanged { OnErr result ((self.new.guard.kept ≡ self.old.guard.kept) × (self.new.last ≡ self.old.last)) }
+        ensures unchanged { OnErr result ((self.new.guard.kept ≡ self.old.guard.kept)
+            × (self.new.last ≡ self.old.last)) }
         ensures out { OnErr result (out.new ≡ out.old) }
         ensures pair { self.new.guard.pair ≡ self.old.guard.pair }
         ensures suits { Suits table.now.rows self.new.guard }

@@ -29,7 +29,8 @@ fn open_unknown<L: Ledger>(
     requires rows { length table.now.rows ≤ hand.old.keys.rows }
     requires room { length bytes.now ≤ length out.old }
     ensures taken { IfOk result (λ p. TakenFresh table.now.rows pair.now now mtu bytes.now out.old out.new p) }
-    ensures refused { IfErr result (λ why. inbound (setting table.now.rows now mtu) pair.now fresh bytes.now ≡ Err why) }
+    ensures refused { IfErr result (λ why. inbound (setting table.now.rows now mtu) pair.now fresh bytes.now
+        ≡ Err why) }
     ensures out { OnErr result (out.new ≡ out.old) }
     ensures rows { hand.new.keys.rows ≡ hand.old.keys.rows }
     ensures most { steps.new ≤ steps.old + 1 }

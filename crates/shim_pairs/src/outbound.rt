@@ -29,7 +29,8 @@ fn seal_first<L: Ledger>(
     requires rows { length table.now.rows ≤ hand.old.keys.rows }
     requires room { length bytes.now + 20 ≤ length out.old }
     ensures sent { IfOk result (λ p. Begins table.now.rows pair.now now hand.new bytes.now out.old out.new p) }
-    ensures refused { IfErr result (λ why. (mtu : ℕ) → outbound (setting table.now.rows now mtu) pair.now fresh bytes.now ≡ Err why) }
+    ensures refused { IfErr result (λ why. (mtu : ℕ) → outbound (setting table.now.rows now mtu) pair.now fresh
+        bytes.now ≡ Err why) }
     ensures out { OnErr result (out.new ≡ out.old) }
     ensures rows { hand.new.keys.rows ≡ hand.old.keys.rows }
     ensures most { steps.new ≤ steps.old + 1 }

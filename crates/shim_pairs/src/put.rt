@@ -16,10 +16,12 @@ use std::mem;
 fn free_one(entries: &mut PairTable<Entry>, spares: &mut Vec<Guard>) -> Guard
     requires count { length entries.old.entries + length spares.old.items ≡ entries.old.most }
     requires some { 1 ≤ entries.old.most }
-    ensures entries { entries.new ≡ of_entries entries.old (without (going entries.old.most entries.old.entries) entries.old.entries) }
+    ensures entries { entries.new
+        ≡ of_entries entries.old (without (going entries.old.most entries.old.entries) entries.old.entries) }
     ensures count { length entries.new.entries + length spares.new.items + 1 ≡ entries.old.most }
     ensures spares { (rows : ℕ) → HaveRoom rows spares.old.items → HaveRoom rows spares.new.items }
-    ensures guard { (rows : ℕ) → HaveRoom rows spares.old.items → AllHaveRoom rows entries.old.entries → result.keys.rows ≡ rows }
+    ensures guard { (rows : ℕ) → HaveRoom rows spares.old.items → AllHaveRoom rows entries.old.entries
+        → result.keys.rows ≡ rows }
 {
     match spares.pop() {
         Some(guard) => guard,
@@ -43,13 +45,15 @@ pub(crate) fn put(
     requires other { found pair.now entries.old.entries ≡ None }
     requires count { length entries.old.entries + length spares.old.items ≡ entries.old.most }
     requires some { 1 ≤ entries.old.most }
-    ensures put { entries.new.entries ≡ with_another entries.old.most entries.old.entries pair.now (record { guard = hand.old; last = last }) }
+    ensures put { entries.new.entries ≡ with_another entries.old.most entries.old.entries pair.now
+        (record { guard = hand.old; last = last }) }
     ensures each { (q : OnePair) (e : OneEntry) → found q entries.new.entries ≡ Some e
         → ((q ≡ pair.now) × (e ≡ record { guard = hand.old; last = last })) ⊎ (found q entries.old.entries ≡ Some e) }
     ensures most { entries.new.most ≡ entries.old.most }
     ensures count { length entries.new.entries + length spares.new.items ≡ entries.new.most }
     ensures spares { (rows : ℕ) → HaveRoom rows spares.old.items → HaveRoom rows spares.new.items }
-    ensures hand { (rows : ℕ) → HaveRoom rows spares.old.items → AllHaveRoom rows entries.old.entries → hand.new.keys.rows ≡ rows }
+    ensures hand { (rows : ℕ) → HaveRoom rows spares.old.items → AllHaveRoom rows entries.old.entries
+        → hand.new.keys.rows ≡ rows }
 {
     // It tells that the pairs are in order.
     let _held = entries.len();

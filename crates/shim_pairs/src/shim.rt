@@ -46,7 +46,8 @@ impl Shim {
     /// for each row of the largest table, and 65,575 bytes; `AllocError` is want of memory.
     pub fn new(alloc: Global, tables: Tables, most: u16) -> Result<Shim, AllocError>
         requires { 1 ≤ most }
-        ensures { IfOk result (λ s. s ≡ record { held = record { tables = tables; most = most; entries = [] }; counters = no_counters }) }
+        ensures { IfOk result
+            (λ s. s ≡ record { held = record { tables = tables; most = most; entries = [] }; counters = no_counters }) }
     {
         let pairs = Pairs::new(alloc, tables, usize::from(most))?;
         let copy = vec![in alloc; 0; MOST_BYTES]?;
@@ -86,7 +87,8 @@ impl Shim {
         steps: &mut Steps<L>,
     ) -> Result<Passed, PairUnsent>
         requires room { count + 20 ≤ length buffer.old }
-        ensures sent { IfOk result (λ p. Leaves now self.old.held self.new.held (take count buffer.old) buffer.old buffer.new p) }
+        ensures sent { IfOk result (λ p. Leaves now self.old.held self.new.held (take count buffer.old) buffer.old
+            buffer.new p) }
         ensures refused { IfErr result (λ why. IsUnsent self.old.held now (take count buffer.old) why) }
         ensures unchanged { OnErr result ((self.new.held ≡ self.old.held) × (buffer.new ≡ buffer.old)) }
         ensures counted { self.new.counters ≡ leaving_counted result self.old.counters }
@@ -118,7 +120,8 @@ impl Shim {
         steps: &mut Steps<L>,
     ) -> Result<Passed, PairUntaken>
         requires room { count + 20 ≤ length buffer.old }
-        ensures taken { IfOk result (λ p. Enters now mtu self.old.held self.new.held (take count buffer.old) buffer.old buffer.new p) }
+        ensures taken { IfOk result (λ p. Enters now mtu self.old.held self.new.held (take count buffer.old) buffer.old
+            buffer.new p) }
         ensures refused { IfErr result (λ why. IsUntaken self.old.held now mtu (take count buffer.old) why) }
         ensures stays { OnErr result (Stays self.old.held self.new.held) }
         ensures buffer { OnErr result (buffer.new ≡ buffer.old) }

@@ -30,7 +30,8 @@ pub struct Taken {
 fn take(end: &mut Endpoint, room: &mut [u8]) -> Taken
     ensures stands { (s : EndState) → EndStands end.old s → EndStands end.new (take_out (length room.old) s) }
     ensures count { (s : EndState) → EndStands end.old s → result.count ≡ length (taking (length room.old) s) }
-    ensures filled { (s : EndState) → EndStands end.old s → room.new ≡ taking (length room.old) s ++ drop result.count room.old }
+    ensures filled { (s : EndState) → EndStands end.old s → room.new
+        ≡ taking (length room.old) s ++ drop result.count room.old }
     ensures at_end { (s : EndState) → EndStands end.old s → result.at_end ≡ at_end (take_out (length room.old) s) }
     ensures pair { pair_at_end end.new ≡ pair_at_end end.old }
     ensures fits { (rows : List Row) → FitsEnd rows end.old → FitsEnd rows end.new }
@@ -45,7 +46,8 @@ impl Ends {
     /// pair isn't held.
     pub fn give(&mut self, pair: &Pair, piece: &[u8]) -> Option<GiveAnswer>
         ensures called { (rows : List Row) (n : NodeState) → Stands self.old rows n
-            → let q : Asking = record { rows = rows; node = n; pair = pair.now; answers = acting (act.Give piece.now) } in CallsAt self.new q result Gives (held_end pair.now n.ends) }
+            → let q : Asking = record { rows = rows; node = n; pair = pair.now; answers = acting (act.Give piece.now) }
+            in CallsAt self.new q result Gives (held_end pair.now n.ends) }
         ensures most { most_of self.new ≡ most_of self.old }
     {
         match self.node.end_mut(pair) {
@@ -58,7 +60,12 @@ impl Ends {
     /// rest of it stays. `None` exactly where the pair isn't held.
     pub fn take(&mut self, pair: &Pair, room: &mut [u8]) -> Option<Taken>
         ensures called { (rows : List Row) (n : NodeState) → Stands self.old rows n
-            → let q : Asking = record { rows = rows; node = n; pair = pair.now; answers = acting (act.Take (length room.old)) } in
+            → let q : Asking = record {
+              rows = rows;
+              node = n;
+              pair = pair.now;
+              answers = acting (act.Take (length room.old));
+            } in
             CallsAt self.new q result (Takes room.old room.new) (held_end pair.now n.ends) }
         ensures untouched { result ≡ None → room.new ≡ room.old }
         ensures most { most_of self.new ≡ most_of self.old }
@@ -73,7 +80,8 @@ impl Ends {
     /// the pair isn't held.
     pub fn close(&mut self, pair: &Pair) -> Option<()>
         ensures called { (rows : List Row) (n : NodeState) → Stands self.old rows n
-            → let q : Asking = record { rows = rows; node = n; pair = pair.now; answers = acting act.Close } in CallsAt self.new q result IsDone (held_end pair.now n.ends) }
+            → let q : Asking = record { rows = rows; node = n; pair = pair.now; answers = acting act.Close } in CallsAt
+            self.new q result IsDone (held_end pair.now n.ends) }
         ensures most { most_of self.new ≡ most_of self.old }
     {
         match self.node.end_mut(pair) {
@@ -86,7 +94,8 @@ impl Ends {
     /// isn't held.
     pub fn abort(&mut self, pair: &Pair) -> Option<()>
         ensures called { (rows : List Row) (n : NodeState) → Stands self.old rows n
-            → let q : Asking = record { rows = rows; node = n; pair = pair.now; answers = acting act.Abort } in CallsAt self.new q result IsDone (held_end pair.now n.ends) }
+            → let q : Asking = record { rows = rows; node = n; pair = pair.now; answers = acting act.Abort } in CallsAt
+            self.new q result IsDone (held_end pair.now n.ends) }
         ensures most { most_of self.new ≡ most_of self.old }
     {
         match self.node.end_mut(pair) {
@@ -106,7 +115,8 @@ impl Ends {
     ) -> Option<Spoken>
         requires { 1500 ≤ length room.old }
         ensures called { (rows : List Row) (n : NodeState) → Stands self.old rows n
-            → let q : Asking = record { rows = rows; node = n; pair = pair.now; answers = acting act.Send } in CallsAt self.new q result (Tells room.new) (held_end pair.now n.ends) }
+            → let q : Asking = record { rows = rows; node = n; pair = pair.now; answers = acting act.Send } in CallsAt
+            self.new q result (Tells room.new) (held_end pair.now n.ends) }
         ensures room { LeavesIf room.old room.new result }
         ensures costs { CostsAsked result steps.old steps.new }
         ensures most { most_of self.new ≡ most_of self.old }
@@ -126,7 +136,8 @@ impl Ends {
     ) -> Option<Spoken>
         requires { 1500 ≤ length room.old }
         ensures called { (rows : List Row) (n : NodeState) → Stands self.old rows n
-            → let q : Asking = record { rows = rows; node = n; pair = pair.now; answers = acting act.Resend } in CallsAt self.new q result (Tells room.new) (held_end pair.now n.ends) }
+            → let q : Asking = record { rows = rows; node = n; pair = pair.now; answers = acting act.Resend } in
+            CallsAt self.new q result (Tells room.new) (held_end pair.now n.ends) }
         ensures room { LeavesIf room.old room.new result }
         ensures costs { CostsAsked result steps.old steps.new }
         ensures most { most_of self.new ≡ most_of self.old }

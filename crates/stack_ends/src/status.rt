@@ -13,7 +13,8 @@ use book_stack::Front;
 impl Ends {
     /// Where the end of the pair stands. `None` exactly where the pair isn't held.
     pub fn front(&self, pair: &Pair) -> Option<Front>
-        ensures { (rows : List Row) (n : NodeState) → Stands self.now rows n → result ≡ option_map end_front (held_end pair.now n.ends) }
+        ensures { (rows : List Row) (n : NodeState) → Stands self.now rows n
+            → result ≡ option_map end_front (held_end pair.now n.ends) }
     {
         self.node.end(pair).map(front_of)
     }

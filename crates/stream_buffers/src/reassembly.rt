@@ -1,7 +1,9 @@
 //! The bytes received, in order or not.
-ghost use Rattle.std.specs.Prelude.{◌≡◌, ℕ, ◌+◌, ◌^◌, ◌≤◌, ◌↔◌, ◌++◌, None, IsTrue, IsSome, IsOk, IfOk, OnOk, OnErr, length, min, drop};
+ghost use Rattle.std.specs.Prelude.{◌≡◌, ℕ, ◌+◌, ◌^◌, ◌≤◌, ◌↔◌, ◌++◌, None, IsTrue, IsSome, IsOk, IfOk, OnOk, OnErr};
+ghost use Rattle.std.specs.Prelude.{length, min, drop};
 ghost use Rattle.book_segments.specs.Received.{below_limit, bytes_from, most_runs};
-ghost use Rattle.stream_buffers.specs.Kept.{IsKept, RunsFrom, Shows, byte_at, forgotten_below, grown, missing_then, ready_count, runs_then, window};
+ghost use Rattle.stream_buffers.specs.Kept.{IsKept, RunsFrom, Shows, byte_at, forgotten_below, grown, missing_then};
+ghost use Rattle.stream_buffers.specs.Kept.{ready_count, runs_then, window};
 
 use crate::buffer::{BUFFER_LENGTH, write};
 use crate::run::{Run, Span};

@@ -1,6 +1,7 @@
 //! Tags of SVG, and text between them.
 ghost use Rattle.std.specs.Prelude.{◌≡◌, ◌++◌, OnOk, decimal, flat_map};
-ghost use Rattle.page_svg.specs.Tags.{anchor_text, box_tag, colour_text, dot_tag, escaped, escaped_byte, line_tag, titled_tag, words_tag};
+ghost use Rattle.page_svg.specs.Tags.{anchor_text, box_tag, colour_text, dot_tag, escaped, escaped_byte, line_tag};
+ghost use Rattle.page_svg.specs.Tags.{titled_tag, words_tag};
 
 use ao_base::push_decimal;
 use page_svg::Point;
@@ -139,7 +140,8 @@ pub fn push_titled(
     title: &[u8],
     drawing: &[u8],
 ) -> Result<(), AllocError>
-    ensures { OnOk result (out.new.items ≡ out.old.items ++ titled_tag class.now (colour_text key_id) title.now drawing.now) }
+    ensures { OnOk result (out.new.items ≡ out.old.items ++ titled_tag class.now (colour_text key_id) title.now
+        drawing.now) }
 {
     out.extend_from_slice(b"<g class=\"")?;
     out.extend_from_slice(class)?;

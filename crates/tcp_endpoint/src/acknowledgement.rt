@@ -15,7 +15,8 @@ use wrap_seq::Counter;
 /// Whether a segment tells a window that isn't older than the last one (RFC 9293, section
 /// 3.10.7.4). The numbers are compared by value: the last window may lie far behind.
 fn is_newer(old_una: u64, wl1: u64, wl2: u64, number: u64, acknowledged: u64) -> bool
-    ensures { result ≡ (nat_le old_una acknowledged && (nat_lt wl1 number || ((wl1 == number) && nat_le wl2 acknowledged))) }
+    ensures { result
+        ≡ (nat_le old_una acknowledged && (nat_lt wl1 number || ((wl1 == number) && nat_le wl2 acknowledged))) }
 {
     old_una <= acknowledged && (wl1 < number || (wl1 == number && wl2 <= acknowledged))
 }
@@ -31,7 +32,8 @@ impl Endpoint {
         ensures pair { self.new.pair ≡ self.old.pair }
         ensures phase { self.new.phase ≡ self.old.phase }
         ensures heard { self.new.sequence.received ≡ self.old.sequence.received }
-        ensures later { above acknowledged (number self.old.sequence.una) ≡ true → self.new.isn < number self.new.sequence.una }
+        ensures later { above acknowledged (number self.old.sequence.una) ≡ true
+            → self.new.isn < number self.new.sequence.una }
     {
         match acknowledged {
             Some(acknowledged) => {
@@ -57,7 +59,8 @@ impl Endpoint {
         acknowledged: Option<u64>,
     )
         requires { is_some self.old.sequence.received ≡ true }
-        ensures stands { (s : EndState) → Stands self.old s → Stands self.new (windowed s old_una datagram.now number acknowledged) }
+        ensures stands { (s : EndState) → Stands self.old s → Stands self.new
+            (windowed s old_una datagram.now number acknowledged) }
         ensures bond { self.new.association ≡ self.old.association }
         ensures pair { self.new.pair ≡ self.old.pair }
         ensures phase { self.new.phase ≡ self.old.phase }

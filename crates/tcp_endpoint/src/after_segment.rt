@@ -14,7 +14,8 @@ impl Endpoint {
     pub(crate) fn carry_out(&mut self, plan: Plan, count: usize)
         requires carried { IsCarried self.old plan }
         requires within { IsWithin self.old plan count }
-        ensures stands { (s : EndState) (most : ℕ) → Stands self.old s → IsCounted self.old most plan count → Stands self.new ((draft_of s most plan).state) }
+        ensures stands { (s : EndState) (most : ℕ) → Stands self.old s → IsCounted self.old most plan count
+            → Stands self.new ((draft_of s most plan).state) }
         ensures bond { self.new.association ≡ self.old.association }
         ensures pair { self.new.pair ≡ self.old.pair }
     {

@@ -59,11 +59,13 @@ impl Endpoint {
         requires fits { FitsEnd table.now.rows self.old }
         requires now { now ≤ greatest_time }
         ensures arrives { (s : EndState) → Stands self.old s
-            → Arrives table.now.rows (pair_at_end self.old) (reading bytes.now) self.new result (book.arrive table.now.rows (pair_at_end self.old) now s (reading bytes.now)) }
+            → Arrives table.now.rows (pair_at_end self.old) (reading bytes.now) self.new result
+            (book.arrive table.now.rows (pair_at_end self.old) now s (reading bytes.now)) }
         ensures option { (d : Segment) → reading bytes.now ≡ Read d → TellsOption d result }
         ensures untouched { IsBeforeCheck result.arrival → (self.new ≡ self.old) × (steps.new ≡ steps.old) }
         ensures unchanged { LeavesAll result.arrival → IsUnmoved self.old self.new }
-        ensures costs { (d : Segment) → reading bytes.now ≡ Read d → Costs table.now.rows now d self.old self.new result steps.old steps.new }
+        ensures costs { (d : Segment) → reading bytes.now ≡ Read d
+            → Costs table.now.rows now d self.old self.new result steps.old steps.new }
         ensures pair { pair_at_end self.new ≡ pair_at_end self.old }
         ensures fits { FitsEnd table.now.rows self.new }
         ensures steps { steps.new ≤ steps.old + 66 }
@@ -88,7 +90,8 @@ impl Endpoint {
         requires fits { FitsEnd table.now.rows self.old }
         requires now { now ≤ greatest_time }
         ensures arrives { (s : EndState) → Stands self.old s
-            → Arrives table.now.rows (pair_at_end self.old) (Read datagram.now) self.new result (book.arrive table.now.rows (pair_at_end self.old) now s (Read datagram.now)) }
+            → Arrives table.now.rows (pair_at_end self.old) (Read datagram.now) self.new result
+            (book.arrive table.now.rows (pair_at_end self.old) now s (Read datagram.now)) }
         ensures option { TellsOption datagram.now result }
         ensures untouched { IsBeforeCheck result.arrival → (self.new ≡ self.old) × (steps.new ≡ steps.old) }
         ensures unchanged { LeavesAll result.arrival → IsUnmoved self.old self.new }

@@ -45,5 +45,6 @@ pub struct Endpoint {
     ghost bound: { Bound association pair isn peer_isn },
     ghost owes: { Owes rst_owed peer_isn },
     ghost sends: { Sends phase closing isn (number sequence.una) (number sequence.next) given (length queue) },
-    ghost receives: { Receives phase peer_isn taken (expected_in sequence.received) (is_some sequence.received) (fin_in sequence.received) reassembly },
+    ghost receives: { Receives phase peer_isn taken (expected_in sequence.received) (is_some sequence.received)
+        (fin_in sequence.received) reassembly },
 }

@@ -7,7 +7,8 @@ ghost use Rattle.tcp_endpoint.specs.Ends.{FitsEnd};
 
 /// A table that fits an end goes on fitting once a row is added.
 pub fn end_fits_once_added()
-    ensures { (rows new : List Row) (r : Row) (n : ℕ) (e : End) → adding rows r ≡ AddedAs n new → FitsEnd rows e → FitsEnd new e }
+    ensures { (rows new : List Row) (r : Row) (n : ℕ) (e : End) → adding rows r ≡ AddedAs n new → FitsEnd rows e
+        → FitsEnd new e }
 {}
 
 /// A table that fits an end goes on fitting once a row is withdrawn.

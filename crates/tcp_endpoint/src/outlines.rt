@@ -62,7 +62,8 @@ impl Endpoint {
     /// How many bytes a segment carries at most: the lesser of both maximum segment sizes, less the
     /// TCP-AO option with a MAC of this algorithm (RFC 9293, section 3.7.1).
     pub(crate) fn most_bytes(&self, algorithm: Algorithm) -> u64
-        ensures value { (s : EndState) → Stands self.now s → result ≡ min (own_mss self.now.pair.local.address) s.mss - (4 + mac_length_of algorithm) }
+        ensures value { (s : EndState) → Stands self.now s → result
+            ≡ min (own_mss self.now.pair.local.address) s.mss - (4 + mac_length_of algorithm) }
         ensures small { result + (4 + mac_length_of algorithm) ≤ own_mss self.now.pair.local.address }
     {
         let least = own_mss(&self.pair.local.address).min(self.mss);
@@ -72,7 +73,8 @@ impl Endpoint {
     /// What a planned segment is made of, with at most so many bytes.
     pub(crate) fn outline(&self, plan: Plan, most: u64) -> Outline
         requires carried { IsCarried self.now plan }
-        ensures outlines { (s : EndState) → Stands self.now s → IsOutlineOf self.now.queue result (draft_of s most plan) }
+        ensures outlines { (s : EndState) → Stands self.now s
+            → IsOutlineOf self.now.queue result (draft_of s most plan) }
         ensures number { number result.number ≤ 2 ^ 63 }
         ensures piece { result.offset + result.count ≤ length self.now.queue }
         ensures few { result.count ≤ max 1 most }

@@ -62,7 +62,8 @@ impl Endpoint {
         requires room { 1500 ≤ length out.old }
         ensures makes { (s : EndState) (chosen : Chosen) → Stands self.old s → s.current ≡ Some chosen.number
             → sending.now ≡ told chosen → slice_get table.now.rows (chosen.number - 1) ≡ Some chosen.row
-            → Makes self.new out.old out.new result (book.made_under self.old.pair s chosen (draft_of s (book.most_bytes self.old.pair s chosen) plan)) }
+            → Makes self.new out.old out.new result (book.made_under self.old.pair s chosen
+            (draft_of s (book.most_bytes self.old.pair s chosen) plan)) }
         ensures sending { result.sending ≡ sending.now }
         ensures short { result.length ≤ 1500 }
         ensures pair { self.new.pair ≡ self.old.pair }

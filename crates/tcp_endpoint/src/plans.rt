@@ -91,7 +91,8 @@ impl Endpoint {
     /// 9293, sections 3.10.8 and 3.8.6.1).
     #[tactic(auto, unfolding(endpoint_steps::specs::Drafting::to_resend))]
     pub(crate) fn plan_again(&self) -> Option<Plan>
-        ensures planned { (s : EndState) (most : ℕ) → Stands self.now s → PlansAs s most result (steps.to_resend s most) }
+        ensures planned { (s : EndState) (most : ℕ) → Stands self.now s
+            → PlansAs s most result (steps.to_resend s most) }
         ensures carried { IfSome result (λ p. IsCarried self.now p) }
     {
         let isn = u64::from(self.isn);

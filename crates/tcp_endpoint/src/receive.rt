@@ -21,7 +21,8 @@ impl Endpoint {
     /// section 3.8.6.2.2).
     pub fn take(&mut self, out: &mut [u8]) -> usize
         ensures count { (s : EndState) → Stands self.old s → result ≡ length (taking (length out.old) s) }
-        ensures taken { (s : EndState) → Stands self.old s → out.new ≡ taking (length out.old) s ++ drop result out.old }
+        ensures taken { (s : EndState) → Stands self.old s → out.new
+            ≡ taking (length out.old) s ++ drop result out.old }
         ensures stands { (s : EndState) → Stands self.old s → Stands self.new (take_out (length out.old) s) }
         ensures pair { pair_at_end self.new ≡ pair_at_end self.old }
         ensures fits { (rows : List Row) → FitsEnd rows self.old → FitsEnd rows self.new }

@@ -74,7 +74,8 @@ impl Endpoint {
         requires known { is_some self.old.sequence.received ≡ true }
         requires range { InRange datagram.now number }
         requires now { now < 2 ^ 63 }
-        ensures reaches { (s : EndState) → Stands self.old s → Reaches self.new result (stages.go_on s old_una datagram.now number now acknowledged) }
+        ensures reaches { (s : EndState) → Stands self.old s → Reaches self.new result
+            (stages.go_on s old_una datagram.now number now acknowledged) }
         ensures bond { self.new.association ≡ self.old.association }
         ensures told { LeavesAll result → ⊥ }
         ensures pair { self.new.pair ≡ self.old.pair }
@@ -103,7 +104,8 @@ impl Endpoint {
         requires range { InRange datagram.now number }
         requires now { now < 2 ^ 63 }
         ensures reaches { (s : EndState) → Stands self.old s
-            → Reaches self.new result (stages.acknowledged s datagram.now number now (meant datagram.now.acknowledgement s.una) s.phase) }
+            → Reaches self.new result (stages.acknowledged s datagram.now number now
+            (meant datagram.now.acknowledgement s.una) s.phase) }
         ensures bond { self.new.association ≡ self.old.association }
         ensures told { LeavesAll result → ⊥ }
         ensures pair { self.new.pair ≡ self.old.pair }
@@ -152,7 +154,8 @@ impl Endpoint {
         requires range { InRange datagram.now number }
         requires now { now < 2 ^ 63 }
         ensures reaches { (s : EndState) → Stands self.old s
-            → Reaches self.new result (stages.ordinary s (book.heard table.now.rows self.old.pair now s rnext) datagram.now number now) }
+            → Reaches self.new result (stages.ordinary s (book.heard table.now.rows self.old.pair now s rnext)
+            datagram.now number now) }
         ensures told { LeavesAll result → ⊥ }
         ensures pair { self.new.pair ≡ self.old.pair }
         ensures fits { Fits table.now.rows self.old.association → Fits table.now.rows self.new.association }

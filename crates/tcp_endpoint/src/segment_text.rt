@@ -86,7 +86,8 @@ impl Endpoint {
     /// Entering TIME-WAIT sets its deadline (RFC 9293, section 3.4.2).
     pub(crate) fn rest(&mut self, now: u64)
         requires { now < 2 ^ 63 }
-        ensures stands { (s : EndState) → Stands self.old s → Stands self.new (hearing.rested s now s.phase s.deadline) }
+        ensures stands { (s : EndState) → Stands self.old s → Stands self.new
+            (hearing.rested s now s.phase s.deadline) }
         ensures bond { self.new.association ≡ self.old.association }
         ensures pair { self.new.pair ≡ self.old.pair }
     {
@@ -111,7 +112,8 @@ impl Endpoint {
         requires range { number + length datagram.now.payload ≤ 2 ^ 63 }
         requires last { has FIN datagram.now ≡ true → number + length datagram.now.payload < 2 ^ 63 }
         requires now { now < 2 ^ 63 }
-        ensures reaches { (s : EndState) → Stands self.old s → Reaches self.new result (stages.hear_data s datagram.now number now true) }
+        ensures reaches { (s : EndState) → Stands self.old s → Reaches self.new result
+            (stages.hear_data s datagram.now number now true) }
         ensures bond { self.new.association ≡ self.old.association }
         ensures told { LeavesAll result → ⊥ }
         ensures pair { self.new.pair ≡ self.old.pair }

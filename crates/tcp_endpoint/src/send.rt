@@ -28,7 +28,8 @@ impl Endpoint {
     /// The lesser of the queue's room and the numbers that are left.
     fn free(&self) -> usize
         ensures small { length self.now.queue ≤ 65535 }
-        ensures value { result ≡ min (65535 - length self.now.queue) (9223372036854775807 - (self.now.isn + 1 + self.now.given)) }
+        ensures value { result ≡ min (65535 - length self.now.queue)
+            (9223372036854775807 - (self.now.isn + 1 + self.now.given)) }
     {
         let left = LAST_NUMBER - (u64::from(self.isn) + 1 + self.given);
         self.queue.room().min(left as usize)

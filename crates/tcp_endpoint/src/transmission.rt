@@ -3,7 +3,8 @@ ghost use Rattle.std.specs.Prelude.{◌≡◌, ◌+◌, ◌≤◌, length};
 ghost use Rattle.book_endpoint.specs.States.{EndState};
 ghost use Rattle.book_endpoint.specs.Emissions as book;
 ghost use Rattle.tcp_endpoint.specs.Ends.{Stands, FitsEnd, IsUnchanged, keys_kept, pair_at_end};
-ghost use Rattle.tcp_endpoint.specs.Emissions.{Emits, EmitCosts, Resends, ResendCosts, MakesNone, ResendsNone, length_made, length_made_again};
+ghost use Rattle.tcp_endpoint.specs.Emissions.{Emits, EmitCosts, Resends, ResendCosts, MakesNone, ResendsNone};
+ghost use Rattle.tcp_endpoint.specs.Emissions.{length_made, length_made_again};
 
 use crate::emission::{Emission, Resent};
 use crate::endpoint::Endpoint;

@@ -47,7 +47,8 @@ fn is_expected(sequence: u32, expected: Counter) -> bool
 /// ring decides it.
 fn is_in_window(sequence: u32, ahead: u32, expected: Counter, window: u16) -> bool
     requires { ahead ≤ 65537 }
-    ensures { (n : ℕ) → meant sequence (value_of expected) ≡ Some n → result ≡ hearing.in_range (n + ahead) (value_of expected) (value_of expected + window) }
+    ensures { (n : ℕ) → meant sequence (value_of expected) ≡ Some n
+        → result ≡ hearing.in_range (n + ahead) (value_of expected) (value_of expected + window) }
 {
     in_window(
         sequence.wrapping_add(ahead),
@@ -60,7 +61,8 @@ fn is_in_window(sequence: u32, ahead: u32, expected: Counter, window: u16) -> bo
 /// section 3.4), around the ring.
 fn fits_around(sequence: u32, length: u32, expected: Counter, window: u16) -> bool
     requires { length ≤ 65537 }
-    ensures { (n : ℕ) → meant sequence (value_of expected) ≡ Some n → result ≡ hearing.fits_window n length (value_of expected) window }
+    ensures { (n : ℕ) → meant sequence (value_of expected) ≡ Some n
+        → result ≡ hearing.fits_window n length (value_of expected) window }
 {
     if length == 0 {
         if window == 0 {

@@ -57,9 +57,11 @@ fn fault_in(area: &[u8]) -> Option<OptionFault>
 pub fn read_options(area: &[u8]) -> Result<Options<'_>, OptionFault>
     requires { length area.now ≤ 40 }
     ensures area { IfOk result (λ options. options ≡ area.now) }
-    ensures exact { MatchResult result (λ _. AreListed (options_of area.now)) (λ fault. options_of area.now ≡ Faulty fault) }
+    ensures exact { MatchResult result (λ _. AreListed (options_of area.now))
+        (λ fault. options_of area.now ≡ Faulty fault) }
     ensures options { IfOk result (λ _. (tail : List ℕ) × Area (listed (options_of area.now)) tail area.now) }
-    ensures only { (list : List book.Opt) (tail : List ℕ) → Area list tail area.now → IsOk result × (listed (options_of area.now) ≡ list) }
+    ensures only { (list : List book.Opt) (tail : List ℕ) → Area list tail area.now
+        → IsOk result × (listed (options_of area.now) ≡ list) }
     ensures fault { IfErr result (λ fault. FaultAt area.now fault) }
 {
     match fault_in(area) {

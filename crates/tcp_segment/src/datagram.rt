@@ -1,7 +1,9 @@
 //! A datagram in the caller's bytes.
-ghost use Rattle.std.specs.Prelude.{◌≡◌, ℕ, List, [], ◌+◌, ◌*◌, ◌/◌, ◌%◌, ◌≤◌, ◌<◌, ◌++◌, length, take, drop, slice_index, slice_range, IfOk, IfErr, IsOkAnd};
+ghost use Rattle.std.specs.Prelude.{◌≡◌, ℕ, List, [], ◌+◌, ◌*◌, ◌/◌, ◌%◌, ◌≤◌, ◌<◌, ◌++◌, length, take, drop};
+ghost use Rattle.std.specs.Prelude.{slice_index, slice_range, IfOk, IfErr, IsOkAnd};
 ghost use Rattle.book_base.specs.declared.address.Address.TheVariants.{V4, V6};
-ghost use Rattle.book_segments.specs.Segments.{Segment, reading, Read, Bad, first_fault, fields, spell, header, good, has, segment_length};
+ghost use Rattle.book_segments.specs.Segments.{Segment, reading, Read, Bad, first_fault, fields, spell, header};
+ghost use Rattle.book_segments.specs.Segments.{good, has, segment_length};
 ghost use Rattle.book_segments.specs.Spelling.{AreBytes, Fits, Spells};
 ghost use Rattle.tcp_segment.specs.Flags.{bit_of_flag};
 ghost use Rattle.tcp_segment.specs.Places.{IsRead};
@@ -42,7 +44,8 @@ pub fn read_datagram(bytes: &[u8]) -> Result<Datagram<'_>, DatagramFault>
     ensures read { IfOk result (λ datagram. reading bytes.now ≡ Read datagram) }
     ensures refused { IfErr result (λ fault. reading bytes.now ≡ Bad fault) }
     ensures spelled { IfOk result (λ datagram. Spells datagram (take (length (spell datagram)) bytes.now)) }
-    ensures only { (d : Segment) (rest : List ℕ) → Fits d → bytes.now ≡ spell d ++ rest → IsOkAnd result (λ datagram. datagram ≡ d) }
+    ensures only { (d : Segment) (rest : List ℕ) → Fits d → bytes.now ≡ spell d ++ rest
+        → IsOkAnd result (λ datagram. datagram ≡ d) }
 {
     let places = places_in(bytes)?;
     Ok(Datagram { bytes, places })

@@ -42,7 +42,8 @@ impl<'a> Draft<&'a mut [u8]> {
 
     /// The datagram as it stands, with its TCP checksum zero.
     pub fn as_datagram(&self) -> Datagram<'_>
-        ensures drafted { (h : Head) (mac payload rest : List ℕ) → Drafted self.now h mac payload rest → result ≡ drafted h mac payload }
+        ensures drafted { (h : Head) (mac payload rest : List ℕ) → Drafted self.now h mac payload rest
+            → result ≡ drafted h mac payload }
         ensures one_ao { (ao : Ao) × (find_ao result.area ≡ One ao) }
         ensures fits { Fits result }
     {
@@ -58,7 +59,8 @@ impl<'a> Draft<&'a mut [u8]> {
     /// buffer is good, and is read again as the same head, MAC and payload, whatever follows.
     pub fn finish(self) -> usize
         ensures len { result ≡ draft_length self.entry }
-        ensures finished { (h : Head) (mac payload rest : List ℕ) → Drafted self.entry h mac payload rest → IsFinished h mac payload rest self.exit.0.now }
+        ensures finished { (h : Head) (mac payload rest : List ℕ) → Drafted self.entry h mac payload rest
+            → IsFinished h mac payload rest self.exit.0.now }
     {
         let Draft {
             out,

@@ -1,5 +1,6 @@
 //! The nine tests of a datagram.
-ghost use Rattle.std.specs.Prelude.{◌≡◌, ℕ, List, ◌+◌, ◌*◌, ◌/◌, ◌%◌, ◌<◌, ◌≤◌, length, slice_index, Some, None, MatchResult};
+ghost use Rattle.std.specs.Prelude.{◌≡◌, ℕ, List, ◌+◌, ◌*◌, ◌/◌, ◌%◌, ◌<◌, ◌≤◌, length, slice_index, Some, None};
+ghost use Rattle.std.specs.Prelude.MatchResult;
 ghost use Rattle.book_segments.specs.Segments.{tcp_fault, v4_fault, v6_fault, first_fault, two_octets_at, is_extension};
 ghost use Rattle.tcp_segment.specs.Places.{PlacedBy, Placed};
 
@@ -20,7 +21,8 @@ pub(crate) struct Places {
 
 /// The length of the TCP header with its options.
 fn tcp_header_length(tcp: &[u8]) -> Result<usize, DatagramFault>
-    ensures { MatchResult result (λ n. (n ≡ 4 * (slice_index tcp.now 12 / 16)) × (tcp_fault tcp.now ≡ None)) (λ fault. tcp_fault tcp.now ≡ Some fault) }
+    ensures { MatchResult result (λ n. (n ≡ 4 * (slice_index tcp.now 12 / 16)) × (tcp_fault tcp.now ≡ None))
+        (λ fault. tcp_fault tcp.now ≡ Some fault) }
 {
     if tcp.len() < TCP_HEADER {
         return Err(DatagramFault::DataOffset);
@@ -37,7 +39,8 @@ fn tcp_header_length(tcp: &[u8]) -> Result<usize, DatagramFault>
 }
 
 fn read_v4(bytes: &[u8]) -> Result<Places, DatagramFault>
-    ensures { MatchResult result (λ places. PlacedBy bytes.now (4 * (slice_index bytes.now 0 % 16)) (two_octets_at bytes.now 2) places × (v4_fault bytes.now ≡ None)) (λ fault. v4_fault bytes.now ≡ Some fault) }
+    ensures { MatchResult result (λ places. PlacedBy bytes.now (4 * (slice_index bytes.now 0 % 16))
+        (two_octets_at bytes.now 2) places × (v4_fault bytes.now ≡ None)) (λ fault. v4_fault bytes.now ≡ Some fault) }
 {
     if bytes.len() < IPV4_HEADER {
         return Err(DatagramFault::Truncated);
@@ -77,7 +80,8 @@ fn is_extension_header(next: u8) -> bool
 }
 
 fn read_v6(bytes: &[u8]) -> Result<Places, DatagramFault>
-    ensures { MatchResult result (λ places. PlacedBy bytes.now 40 (40 + two_octets_at bytes.now 4) places × (v6_fault bytes.now ≡ None)) (λ fault. v6_fault bytes.now ≡ Some fault) }
+    ensures { MatchResult result (λ places. PlacedBy bytes.now 40 (40 + two_octets_at bytes.now 4) places
+        × (v6_fault bytes.now ≡ None)) (λ fault. v6_fault bytes.now ≡ Some fault) }
 {
     if bytes.len() < IPV6_HEADER {
         return Err(DatagramFault::Truncated);
@@ -105,7 +109,8 @@ fn read_v6(bytes: &[u8]) -> Result<Places, DatagramFault>
 /// The places of the datagram that a prefix of the bytes is, by the nine tests in their order.
 #[tactic(auto, unfolding(book_segments::specs::Segments::first_fault))]
 pub(crate) fn places_in(bytes: &[u8]) -> Result<Places, DatagramFault>
-    ensures { MatchResult result (λ places. Placed bytes.now places × (first_fault bytes.now ≡ None)) (λ fault. first_fault bytes.now ≡ Some fault) }
+    ensures { MatchResult result (λ places. Placed bytes.now places × (first_fault bytes.now ≡ None))
+        (λ fault. first_fault bytes.now ≡ Some fault) }
 {
     if bytes.is_empty() {
         return Err(DatagramFault::Truncated);

@@ -1,10 +1,12 @@
 //! The written form of a datagram.
-ghost use Rattle.std.specs.Prelude.{◌≡◌, ◌+◌, ◌-◌, ◌*◌, ◌/◌, ◌%◌, ◌≤◌, ◌<◌, ◌++◌, ◌∷◌, List, [], ℕ, length, take, drop, replicate, ◌⊎◌, Option, Some, None};
+ghost use Rattle.std.specs.Prelude.{◌≡◌, ◌+◌, ◌-◌, ◌*◌, ◌/◌, ◌%◌, ◌≤◌, ◌<◌, ◌++◌, ◌∷◌, List, [], ℕ, length, take};
+ghost use Rattle.std.specs.Prelude.{drop, replicate, ◌⊎◌, Option, Some, None};
 ghost use Rattle.book_segments.specs.Bytes.{put2};
 ghost use Rattle.book_segments.specs.Sockets.{octets};
 ghost use Rattle.book_segments.specs.Segments.{complement_of};
 ghost use Rattle.tcp_segment.specs.Written.{ip_words};
-ghost use Rattle.tcp_segment.specs.Layout.{ip_start, ip_size, tcp_start, mss_length, option_heads, header_length, IsSized, HasNumbers, IsHead, HoldsDraft};
+ghost use Rattle.tcp_segment.specs.Layout.{ip_start, ip_size, tcp_start, mss_length, option_heads, header_length};
+ghost use Rattle.tcp_segment.specs.Layout.{IsSized, HasNumbers, IsHead, HoldsDraft};
 ghost use Rattle.tcp_segment.specs.Drafts.{Drafted, InBuffer};
 
 use crate::draft::{DatagramMut, Draft};
@@ -175,7 +177,9 @@ struct Layout {
 fn lay_out(out: &mut [u8], head: &Head, payload_len: usize) -> Layout
     requires head { IsHead head.now payload_len }
     requires room { 1500 ≤ length out.old }
-    ensures { HoldsDraft out.new result.header result.mac result.payload result.len head.now 0 (replicate head.now.mac_length 0) (replicate payload_len 0) (drop (header_length head.now + payload_len) out.old) }
+    ensures { HoldsDraft out.new result.header result.mac result.payload result.len head.now 0
+        (replicate head.now.mac_length 0) (replicate payload_len 0)
+        (drop (header_length head.now + payload_len) out.old) }
 {
     let header = ip_length_of(head);
     let mac = header + TCP_HEADER + heads_length_of(head);
@@ -209,7 +213,8 @@ pub fn write_datagram<'a>(out: &'a mut [u8], head: &Head, payload_len: usize) ->
     requires head { IsHead head.now payload_len }
     requires room { 1500 ≤ length out.old }
     ensures same_buffer { InBuffer out.entry result }
-    ensures drafted { Drafted result head.now (replicate head.now.mac_length 0) (replicate payload_len 0) (drop (header_length head.now + payload_len) out.old) }
+    ensures drafted { Drafted result head.now (replicate head.now.mac_length 0) (replicate payload_len 0)
+        (drop (header_length head.now + payload_len) out.old) }
 {
     let Layout {
         header,

@@ -29,7 +29,8 @@ fn push_place(out: &mut Vec<u8>, number: u32, kind: LineKind) -> Result<(), Allo
 }
 
 fn push_line(out: &mut Vec<u8>, number: u32, kind: LineKind) -> Result<(), AllocError>
-    ensures { OnOk result (out.new.items ≡ out.old.items ++ line_text (codes "input: line" ∷ decimal number ∷ kind_text kind ∷ [])) }
+    ensures { OnOk result (out.new.items ≡ out.old.items ++ line_text
+        (codes "input: line" ∷ decimal number ∷ kind_text kind ∷ [])) }
 {
     out.extend_from_slice(b"input: line")?;
     push_place(out, number, kind)?;

@@ -1,7 +1,9 @@
 //! The words of a line, read one by one.
 ghost use Rattle.std.specs.Prelude.{◌≡◌, ℕ, ◌≤◌, ◌<◌, List, drop, length, IfOk, MatchResult, Ok, Err};
 ghost use Rattle.book_base.specs.Lines.{words_of};
-ghost use Rattle.book_lines.specs.Words.{word_in, nothing_in, literal_in, choice_of, choice_in, end_of, end_in, address_in, socket_in, algorithm_in, number_in, hex_in, sized_hex_in, some_hex_in, byte_in};
+ghost use Rattle.book_lines.specs.Words.{word_in, nothing_in, literal_in, choice_of, choice_in, end_of, end_in};
+ghost use Rattle.book_lines.specs.Words.{address_in, socket_in, algorithm_in, number_in, hex_in, sized_hex_in};
+ghost use Rattle.book_lines.specs.Words.{some_hex_in, byte_in};
 ghost use Rattle.text_lines.specs.Readings.{gives, Tells};
 
 use crate::refusal::Refusal;
@@ -50,7 +52,8 @@ impl<'a> LineWords<'a> {
     /// The next word; `Word` where it is missing.
     #[tactic(auto, unfolding(book_lines::specs::Words::word_in))]
     pub fn word(&mut self) -> Result<&'a [u8], LineKind>
-        ensures { MatchResult result (λ w. word_in self.old ≡ Ok (record { value = w.now; rest = self.new })) (λ kind. word_in self.old ≡ Err kind) }
+        ensures { MatchResult result (λ w. word_in self.old ≡ Ok (record { value = w.now; rest = self.new }))
+            (λ kind. word_in self.old ≡ Err kind) }
     {
         let cut = next_word(self.line, self.from).ok_or(LineKind::Word)?;
         self.from = cut.after;

@@ -49,7 +49,8 @@ impl<'a> SayingLines<'a> {
     /// The next line that says something, or None after the last.
     #[tactic(auto, unfolding(book_lines::specs::Lines::saying_from))]
     pub fn next(&mut self) -> Option<Saying<'a>>
-        ensures { MatchOption result (self.old ≡ []) (λ s. self.old ≡ record { number = s.number; words = s.words } ∷ self.new) }
+        ensures { MatchOption result (self.old ≡ []) (λ s. self.old
+            ≡ record { number = s.number; words = s.words } ∷ self.new) }
     {
         while let Some(line) = self.lines.next() {
             self.number += 1;

@@ -52,7 +52,13 @@ fn row_at<'a>(rows: &'a [Row], number: u8, other: &'a Row) -> &'a Row
 
 // The context of the other direction.
 fn turned(mut choices: MacChoices) -> MacChoices
-    ensures { choices_view result ≡ record (choices_view choices) { source = choices.destination; destination = choices.source; source_isn = choices.destination_isn; destination_isn = choices.source_isn } }
+    ensures { choices_view result
+        ≡ record (choices_view choices) {
+          source = choices.destination;
+          destination = choices.source;
+          source_isn = choices.destination_isn;
+          destination_isn = choices.source_isn;
+        } }
 {
     let (source, source_isn) = (choices.source, choices.source_isn);
     choices.source = choices.destination;
@@ -63,7 +69,8 @@ fn turned(mut choices: MacChoices) -> MacChoices
 }
 
 fn with_sockets_exchanged(mut choices: MacChoices) -> MacChoices
-    ensures { choices_view result ≡ record (choices_view choices) { source = choices.destination; destination = choices.source } }
+    ensures { choices_view result
+        ≡ record (choices_view choices) { source = choices.destination; destination = choices.source } }
 {
     let source = choices.source;
     choices.source = choices.destination;
@@ -72,7 +79,8 @@ fn with_sockets_exchanged(mut choices: MacChoices) -> MacChoices
 }
 
 fn with_isns_exchanged(mut choices: MacChoices) -> MacChoices
-    ensures { choices_view result ≡ record (choices_view choices) { source_isn = choices.destination_isn; destination_isn = choices.source_isn } }
+    ensures { choices_view result
+        ≡ record (choices_view choices) { source_isn = choices.destination_isn; destination_isn = choices.source_isn } }
 {
     let source_isn = choices.source_isn;
     choices.source_isn = choices.destination_isn;
@@ -81,7 +89,8 @@ fn with_isns_exchanged(mut choices: MacChoices) -> MacChoices
 }
 
 fn with_isns(mut choices: MacChoices, isns: IsnPair) -> MacChoices
-    ensures { choices_view result ≡ record (choices_view choices) { source_isn = isns.source_isn; destination_isn = isns.destination_isn } }
+    ensures { choices_view result
+        ≡ record (choices_view choices) { source_isn = isns.source_isn; destination_isn = isns.destination_isn } }
 {
     choices.source_isn = isns.source_isn;
     choices.destination_isn = isns.destination_isn;
@@ -107,7 +116,10 @@ fn checksum_of(suspect: &Suspect<'_>) -> u16
 
 // The choices under HMAC-SHA-256 cut to 96 bits.
 fn cut_sha256(alloc: Global, suspect: &Suspect<'_>) -> Result<MacChoices, AllocError>
-    ensures { IfOk result (λ m. choices_view m ≡ record (right_choices (record (suspect.now.row.now) { algorithm = HmacSha256 }) (suspect_view suspect.now)) { cut = true }) }
+    ensures { IfOk result
+        (λ m. choices_view m
+        ≡ record (right_choices (record (suspect.now.row.now) { algorithm = HmacSha256 })
+        (suspect_view suspect.now)) { cut = true }) }
 {
     let mut choices = choices_with(alloc, Algorithm::HmacSha256, suspect.row, suspect)?;
     choices.cut = true;
@@ -186,7 +198,8 @@ pub(crate) fn changed_choices(
     suspect: &Suspect<'_>,
 ) -> Result<MacChoices, AllocError>
     requires { find_ao suspect.now.datagram.now.area ≡ One (view_ao suspect.now.ao) }
-    ensures { IfOk result (λ m. choices_view m ≡ changed_choices change (both_view both.now) (suspect_view suspect.now) (right_choices suspect.now.row.now (suspect_view suspect.now))) }
+    ensures { IfOk result (λ m. choices_view m ≡ changed_choices change (both_view both.now) (suspect_view suspect.now)
+        (right_choices suspect.now.row.now (suspect_view suspect.now))) }
 {
     let choices = choices_under(alloc, change, both, suspect)?;
     let keyed = keyed_under(alloc, change, choices)?;

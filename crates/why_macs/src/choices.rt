@@ -56,7 +56,8 @@ pub(crate) fn choices_with(
     row: &Row,
     suspect: &Suspect<'_>,
 ) -> Result<MacChoices, AllocError>
-    ensures { IfOk result (λ m. choices_view m ≡ right_choices (record (row.now) { algorithm = algorithm }) (suspect_view suspect.now)) }
+    ensures { IfOk result (λ m. choices_view m ≡ right_choices (record (row.now) { algorithm = algorithm })
+        (suspect_view suspect.now)) }
 {
     let master = row.master().to_vec(alloc)?;
     let mac_bytes = vec![in alloc; 0u8; suspect.ao.mac.len()]?;

@@ -24,7 +24,8 @@ fn push_addresses(
     source: &Socket,
     destination: &Socket,
 ) -> Result<(), AllocError>
-    ensures { OnOk result (out.new.items ≡ out.old.items ++ (octets source.now.address ++ octets destination.now.address)) }
+    ensures { OnOk result
+        (out.new.items ≡ out.old.items ++ (octets source.now.address ++ octets destination.now.address)) }
 {
     push_address(out, &source.address)?;
     push_address(out, &destination.address)
@@ -48,7 +49,8 @@ fn push_isns(out: &mut Vec<u8>, source_isn: u32, destination_isn: u32) -> Result
 
 /// Puts the context behind `out` (RFC 5925, section 5.2).
 pub(crate) fn push_context(out: &mut Vec<u8>, choices: &MacChoices) -> Result<(), AllocError>
-    ensures { OnOk result (out.new.items ≡ out.old.items ++ context choices.now.source choices.now.destination choices.now.source_isn choices.now.destination_isn) }
+    ensures { OnOk result (out.new.items ≡ out.old.items ++ context choices.now.source choices.now.destination
+        choices.now.source_isn choices.now.destination_isn) }
 {
     push_addresses(out, &choices.source, &choices.destination)?;
     push_ports(out, &choices.source, &choices.destination)?;
@@ -58,7 +60,9 @@ pub(crate) fn push_context(out: &mut Vec<u8>, choices: &MacChoices) -> Result<()
 
 /// What the key derivation hashes (RFC 5926, section 3.1).
 pub(crate) fn derivation_of(alloc: Global, choices: &MacChoices) -> Result<Vec<u8>, AllocError>
-    ensures { IfOk result (λ bytes. bytes.items ≡ derivation_input (context choices.now.source choices.now.destination choices.now.source_isn choices.now.destination_isn) choices.now.output_length) }
+    ensures { IfOk result (λ bytes. bytes.items ≡ derivation_input
+        (context choices.now.source choices.now.destination choices.now.source_isn choices.now.destination_isn)
+        choices.now.output_length) }
 {
     let mut out = Vec::new(alloc);
     push_piece(&mut out, b"\x01TCP-AO")?;

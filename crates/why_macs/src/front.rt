@@ -153,7 +153,8 @@ pub(crate) fn push_covered(
 ) -> Result<(), AllocError>
     requires within { ao.place + 4 + length ao.mac.now ≤ length area.now }
     requires room { length area.now ≤ 40 }
-    ensures { OnOk result (out.new.items ≡ out.old.items ++ covered_with with_options area.now (view_ao ao.entry) mac.now) }
+    ensures { OnOk result (out.new.items ≡ out.old.items ++ covered_with with_options area.now (view_ao ao.entry)
+        mac.now) }
 {
     if with_options {
         push_all_options(out, area, ao, mac)
@@ -182,7 +183,8 @@ fn push_headers(
     datagram: &Datagram<'_>,
     checksum: u16,
 ) -> Result<(), AllocError>
-    ensures { OnOk result (out.new.items ≡ out.old.items ++ behind_pseudo present datagram.now (header datagram.now checksum [])) }
+    ensures { OnOk result (out.new.items ≡ out.old.items ++ behind_pseudo present datagram.now
+        (header datagram.now checksum [])) }
 {
     if present {
         push_both_headers(out, datagram, checksum)
@@ -197,7 +199,8 @@ fn push_head(
     choices: &MacChoices,
     datagram: &Datagram<'_>,
 ) -> Result<(), AllocError>
-    ensures { OnOk result (out.new.items ≡ out.old.items ++ put4 choices.now.extension (behind_pseudo choices.now.pseudo_header datagram.now (header datagram.now choices.now.checksum []))) }
+    ensures { OnOk result (out.new.items ≡ out.old.items ++ put4 choices.now.extension
+        (behind_pseudo choices.now.pseudo_header datagram.now (header datagram.now choices.now.checksum []))) }
 {
     push_four(out, choices.extension)?;
     push_headers(out, choices.pseudo_header, datagram, choices.checksum)?;
@@ -212,7 +215,8 @@ pub(crate) fn front_of(
     ao: AoOption<'_>,
 ) -> Result<Vec<u8>, AllocError>
     requires { find_ao datagram.now.area ≡ One (view_ao ao) }
-    ensures { IfOk result (λ front. front.items ≡ front_made (choices_view choices.now) datagram.now (view_ao ao.entry)) }
+    ensures { IfOk result (λ front. front.items ≡ front_made (choices_view choices.now) datagram.now
+        (view_ao ao.entry)) }
 {
     let mut out = Vec::new(alloc);
     let options = datagram.options();

@@ -5,7 +5,9 @@ ghost use Rattle.book_segments.specs.Options.{One, find_ao};
 ghost use Rattle.book_why.specs.ChangeTexts.{passing_lines};
 ghost use Rattle.book_why.specs.Judging.{suspect_context};
 ghost use Rattle.book_why.specs.Recipes.{mac_made, recipe_of};
-ghost use Rattle.book_why_texts.specs.MacTexts.{agrees_text, computed_line, extension_part, header_part, input_lines, key_line_if, mac_lines, options_part, part_line, pseudo_part};
+ghost use Rattle.book_why_texts.specs.MacTexts.{agrees_text, computed_line, extension_part, header_part};
+ghost use Rattle.book_why_texts.specs.MacTexts.{input_lines, key_line_if, mac_lines, options_part, part_line};
+ghost use Rattle.book_why_texts.specs.MacTexts.pseudo_part;
 ghost use Rattle.tcp_options.specs.Views.{view_ao};
 ghost use Rattle.why_macs.specs.Views.{both_view, recipe_view, suspect_view};
 
@@ -33,7 +35,8 @@ fn push_extension_line(
     out: &mut Vec<u8>,
     suspect: &Suspect<'_>,
 ) -> Result<(), AllocError>
-    ensures { OnOk result (out.new.items ≡ out.old.items ++ part_line (codes "extension") (extension_part (suspect_view suspect.now))) }
+    ensures { OnOk result (out.new.items ≡ out.old.items ++ part_line (codes "extension")
+        (extension_part (suspect_view suspect.now))) }
 {
     let mut part = Vec::new(alloc);
     push_extension_part(&mut part, suspect)?;
@@ -45,7 +48,8 @@ fn push_pseudo_line(
     out: &mut Vec<u8>,
     suspect: &Suspect<'_>,
 ) -> Result<(), AllocError>
-    ensures { OnOk result (out.new.items ≡ out.old.items ++ part_line (codes "pseudo-header") (pseudo_part (suspect_view suspect.now))) }
+    ensures { OnOk result (out.new.items ≡ out.old.items ++ part_line (codes "pseudo-header")
+        (pseudo_part (suspect_view suspect.now))) }
 {
     let mut part = Vec::new(alloc);
     push_pseudo_part(&mut part, suspect)?;
@@ -57,7 +61,8 @@ fn push_header_line(
     out: &mut Vec<u8>,
     suspect: &Suspect<'_>,
 ) -> Result<(), AllocError>
-    ensures { OnOk result (out.new.items ≡ out.old.items ++ part_line (codes "header") (header_part (suspect_view suspect.now))) }
+    ensures { OnOk result (out.new.items ≡ out.old.items ++ part_line (codes "header")
+        (header_part (suspect_view suspect.now))) }
 {
     let mut part = Vec::new(alloc);
     push_header_part(&mut part, suspect)?;
@@ -70,7 +75,8 @@ fn push_options_line(
     suspect: &Suspect<'_>,
 ) -> Result<(), AllocError>
     requires { find_ao suspect.now.datagram.now.area ≡ One (view_ao suspect.now.ao) }
-    ensures { OnOk result (out.new.items ≡ out.old.items ++ part_line (codes "options") (options_part (suspect_view suspect.now))) }
+    ensures { OnOk result (out.new.items ≡ out.old.items ++ part_line (codes "options")
+        (options_part (suspect_view suspect.now))) }
 {
     let mut part = Vec::new(alloc);
     push_options_part(alloc, &mut part, suspect)?;
@@ -78,7 +84,8 @@ fn push_options_line(
 }
 
 fn push_payload_line(out: &mut Vec<u8>, suspect: &Suspect<'_>) -> Result<(), AllocError>
-    ensures { OnOk result (out.new.items ≡ out.old.items ++ line_text (codes " " ∷ codes "payload" ∷ decimal (length suspect.now.datagram.now.payload) ∷ codes "bytes" ∷ [])) }
+    ensures { OnOk result (out.new.items ≡ out.old.items ++ line_text
+        (codes " " ∷ codes "payload" ∷ decimal (length suspect.now.datagram.now.payload) ∷ codes "bytes" ∷ [])) }
 {
     out.extend_from_slice(b"  payload")?;
     push_number(out, suspect.datagram.payload().len() as u64)?;
@@ -138,7 +145,8 @@ fn push_context_line(
     out: &mut Vec<u8>,
     suspect: &Suspect<'_>,
 ) -> Result<(), AllocError>
-    ensures { OnOk result (out.new.items ≡ out.old.items ++ part_line (codes "context") (suspect_context (suspect_view suspect.now))) }
+    ensures { OnOk result (out.new.items ≡ out.old.items ++ part_line (codes "context")
+        (suspect_context (suspect_view suspect.now))) }
 {
     let context = suspect_context(alloc, suspect)?;
     push_part_line(out, b"context", context.as_slice())
@@ -174,7 +182,8 @@ pub fn push_passing_lines(
     suspect: &Suspect<'_>,
 ) -> Result<(), AllocError>
     requires { find_ao suspect.now.datagram.now.area ≡ One (view_ao suspect.now.ao) }
-    ensures { OnOk result (out.new.items ≡ out.old.items ++ passing_lines (both_view both.now) others.now (suspect_view suspect.now)) }
+    ensures { OnOk result (out.new.items ≡ out.old.items ++ passing_lines (both_view both.now) others.now
+        (suspect_view suspect.now)) }
 {
     let passing = would_pass(alloc, both, others, suspect)?;
     push_passing(out, both, suspect, passing.as_slice())

@@ -96,7 +96,8 @@ pub(crate) fn keyed_under(
     change: Change,
     mut choices: MacChoices,
 ) -> Result<MacChoices, AllocError>
-    ensures { IfOk result (λ m. choices_view m ≡ record (choices_view choices) { master = master_under change choices.master.items }) }
+    ensures { IfOk result
+        (λ m. choices_view m ≡ record (choices_view choices) { master = master_under change choices.master.items }) }
 {
     choices.master = master_under(alloc, change, choices.master)?;
     Ok(choices)

@@ -138,7 +138,8 @@ fn push_change(
     change: Change,
 ) -> Result<(), AllocError>
     requires { find_ao suspect.now.datagram.now.area ≡ One (view_ao suspect.now.ao) }
-    ensures { OnOk result (out.new.items ≡ out.old.items ++ kept (passes_changed (both_view both.now) (suspect_view suspect.now)) change) }
+    ensures { OnOk result (out.new.items ≡ out.old.items ++ kept
+        (passes_changed (both_view both.now) (suspect_view suspect.now)) change) }
 {
     if passes_changed(alloc, both, suspect, change)? {
         out.push(change)?;
@@ -155,7 +156,8 @@ fn push_kept(
     all: &[Change],
 ) -> Result<(), AllocError>
     requires { find_ao suspect.now.datagram.now.area ≡ One (view_ao suspect.now.ao) }
-    ensures { OnOk result (out.new.items ≡ out.old.items ++ flat_map (kept (passes_changed (both_view both.now) (suspect_view suspect.now))) all.now) }
+    ensures { OnOk result (out.new.items ≡ out.old.items ++ flat_map
+        (kept (passes_changed (both_view both.now) (suspect_view suspect.now))) all.now) }
 {
     for change in all {
         push_change(alloc, out, both, suspect, *change)?;
@@ -172,7 +174,8 @@ fn push_filtered(
     all: &[Change],
 ) -> Result<(), AllocError>
     requires { find_ao suspect.now.datagram.now.area ≡ One (view_ao suspect.now.ao) }
-    ensures { OnOk result (out.new.items ≡ out.old.items ++ filter (passes_changed (both_view both.now) (suspect_view suspect.now)) all.now) }
+    ensures { OnOk result (out.new.items ≡ out.old.items ++ filter
+        (passes_changed (both_view both.now) (suspect_view suspect.now)) all.now) }
 {
     push_kept(alloc, out, both, suspect, all)
 }
@@ -186,7 +189,8 @@ pub fn would_pass(
     suspect: &Suspect<'_>,
 ) -> Result<Vec<Change>, AllocError>
     requires { find_ao suspect.now.datagram.now.area ≡ One (view_ao suspect.now.ao) }
-    ensures { IfOk result (λ passing. passing.items ≡ would_pass (both_view both.now) others.now (suspect_view suspect.now)) }
+    ensures { IfOk result (λ passing. passing.items ≡ would_pass (both_view both.now) others.now
+        (suspect_view suspect.now)) }
 {
     let all = all_changes(alloc, both, others)?;
     let mut passing = Vec::new(alloc);

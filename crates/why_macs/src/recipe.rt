@@ -59,7 +59,8 @@ pub fn recipe_by<'a>(
     ao: AoOption<'_>,
 ) -> Result<Recipe<'a>, AllocError>
     requires { find_ao datagram.now.area ≡ One (view_ao ao) }
-    ensures recipe { IfOk result (λ recipe. recipe_view recipe ≡ recipe_by (choices_view choices) datagram.now (view_ao ao.entry)) }
+    ensures recipe { IfOk result (λ recipe. recipe_view recipe
+        ≡ recipe_by (choices_view choices) datagram.now (view_ao ao.entry)) }
     ensures most { IfOk result (λ recipe. recipe.taken ≤ 16) }
 {
     let derivation = derivation_of(alloc, &choices)?;

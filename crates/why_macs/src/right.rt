@@ -39,7 +39,8 @@ pub fn suspect_context(alloc: Global, suspect: &Suspect<'_>) -> Result<Vec<u8>, 
 
 /// The traffic key of a recipe (RFC 5926, section 3.1).
 pub fn key_made(alloc: Global, recipe: &Recipe<'_>) -> Result<Vec<u8>, AllocError>
-    ensures { IfOk result (λ key. key.items ≡ key_made recipe.now.algorithm recipe.now.master.items recipe.now.derivation.items) }
+    ensures { IfOk result (λ key. key.items ≡ key_made recipe.now.algorithm recipe.now.master.items
+        recipe.now.derivation.items) }
 {
     let master = recipe.master.as_slice();
     let derivation = recipe.derivation.as_slice();

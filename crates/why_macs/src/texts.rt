@@ -3,7 +3,8 @@ ghost use Rattle.std.specs.Prelude.{◌≡◌, ◌++◌, ◌∷◌, [], OnOk, co
 ghost use Rattle.std.specs.List.{flat_map};
 ghost use Rattle.book_lines.specs.Texts.{spaced};
 ghost use Rattle.book_why.specs.Changes.{table_at};
-ghost use Rattle.book_why.specs.ChangeTexts.{change_details, change_name, lines_of_passing, node_name, options_text, passing_line};
+ghost use Rattle.book_why.specs.ChangeTexts.{change_details, change_name, lines_of_passing, node_name, options_text};
+ghost use Rattle.book_why.specs.ChangeTexts.passing_line;
 ghost use Rattle.why_macs.specs.Views.{both_view, suspect_view};
 
 use crate::suspect::{BothTables, Suspect};
@@ -72,7 +73,8 @@ fn change_name(change: Change) -> &'static [u8]
 }
 
 fn push_row(out: &mut Vec<u8>, number: u8, name: &[u8]) -> Result<(), AllocError>
-    ensures { OnOk result (out.new.items ≡ out.old.items ++ spaced (codes "row" ∷ decimal number ∷ codes "of" ∷ name.now ∷ [])) }
+    ensures { OnOk result (out.new.items ≡ out.old.items ++ spaced
+        (codes "row" ∷ decimal number ∷ codes "of" ∷ name.now ∷ [])) }
 {
     push_field(out, b"row", u64::from(number))?;
     push_text(out, b"of")?;
@@ -87,7 +89,8 @@ fn push_count(out: &mut Vec<u8>, most: u8) -> Result<(), AllocError>
 }
 
 fn push_isns(out: &mut Vec<u8>, isns: IsnPair) -> Result<(), AllocError>
-    ensures { OnOk result (out.new.items ≡ out.old.items ++ spaced (decimal isns.source_isn ∷ decimal isns.destination_isn ∷ [])) }
+    ensures { OnOk result (out.new.items ≡ out.old.items ++ spaced
+        (decimal isns.source_isn ∷ decimal isns.destination_isn ∷ [])) }
 {
     push_number(out, u64::from(isns.source_isn))?;
     push_number(out, u64::from(isns.destination_isn))
@@ -106,7 +109,8 @@ fn push_details(
     suspect: &Suspect<'_>,
     change: Change,
 ) -> Result<(), AllocError>
-    ensures { OnOk result (out.new.items ≡ out.old.items ++ spaced (change_details (both_view both.now) (suspect_view suspect.now) change)) }
+    ensures { OnOk result (out.new.items ≡ out.old.items ++ spaced
+        (change_details (both_view both.now) (suspect_view suspect.now) change)) }
 {
     match change {
         Change::AnotherRow(node, number) => push_row(out, number, name_at(both, node)),
@@ -141,7 +145,8 @@ fn push_line(
     suspect: &Suspect<'_>,
     change: Change,
 ) -> Result<(), AllocError>
-    ensures { OnOk result (out.new.items ≡ out.old.items ++ passing_line (both_view both.now) (suspect_view suspect.now) change) }
+    ensures { OnOk result (out.new.items ≡ out.old.items ++ passing_line (both_view both.now)
+        (suspect_view suspect.now) change) }
 {
     out.extend_from_slice(b"would pass with")?;
     push_text(out, change_name(change))?;
@@ -155,7 +160,8 @@ fn push_lines(
     suspect: &Suspect<'_>,
     passing: &[Change],
 ) -> Result<(), AllocError>
-    ensures { OnOk result (out.new.items ≡ out.old.items ++ flat_map (passing_line (both_view both.now) (suspect_view suspect.now)) passing.now) }
+    ensures { OnOk result (out.new.items ≡ out.old.items ++ flat_map
+        (passing_line (both_view both.now) (suspect_view suspect.now)) passing.now) }
 {
     for change in passing {
         push_line(out, both, suspect, *change)?;
@@ -171,7 +177,8 @@ pub fn push_passing(
     suspect: &Suspect<'_>,
     passing: &[Change],
 ) -> Result<(), AllocError>
-    ensures { OnOk result (out.new.items ≡ out.old.items ++ lines_of_passing (both_view both.now) (suspect_view suspect.now) passing.now) }
+    ensures { OnOk result (out.new.items ≡ out.old.items ++ lines_of_passing (both_view both.now)
+        (suspect_view suspect.now) passing.now) }
 {
     match passing {
         [] => out.extend_from_slice(b"no single change makes it pass\n"),

@@ -28,7 +28,8 @@ fn over_memory(
     requires done { (answer_of (command_of words.now) keys input).status < 2 }
     requires room { length (answer_of (command_of words.now) keys input).output < room }
     ensures { IfOk result (λ told.
-        ((told.0 ≡ (answer_of (command_of words.now) keys input).status) × (told.1.held ≡ (answer_of (command_of words.now) keys input).output))
+        ((told.0 ≡ (answer_of (command_of words.now) keys input).status)
+        × (told.1.held ≡ (answer_of (command_of words.now) keys input).output))
         ⊎ (told.0 ≡ 7)) }
 {
     let mut keys = source(alloc, keys);
