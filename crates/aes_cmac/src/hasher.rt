@@ -1,6 +1,6 @@
 //! CMAC fed in pieces, and its PRF.
 ghost use Rattle.std.specs.Prelude.{◌≡◌, ◌+◌, ◌-◌, ◌<◌, ◌≤◌, ◌++◌, ◌∷◌, List, [], ℕ, length, take, replicate, ◌==◌};
-ghost use Rattle.std.specs.Prelude.if◌then◌else◌;
+ghost use Rattle.std.specs.Prelude.{if◌then◌else◌};
 ghost use Rattle.book_macs.specs.Ciphers.{aes, cmac, prf, xor, last_block};
 ghost use Rattle.aes_cmac.specs.Block.{bytes_of, halves_bytes};
 ghost use Rattle.aes_cmac.specs.Cipher.{IsKeyed};

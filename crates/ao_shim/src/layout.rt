@@ -1,6 +1,6 @@
 //! A datagram that is laid out again.
 ghost use Rattle.std.specs.Prelude.{◌≡◌, ℕ, ◌+◌, ◌/◌, ◌==◌, ◌≤◌, ◌<◌, ◌++◌, true, false, length, take, drop};
-ghost use Rattle.std.specs.Prelude.slice_index;
+ghost use Rattle.std.specs.Prelude.{slice_index};
 ghost use Rattle.book_segments.specs.Segments.{reading, Read, spell};
 ghost use Rattle.book_shim.specs.Relaying.{with_area, relaid, length_in_header, headers_length};
 ghost use Rattle.book_shim.specs.Leaving.{as_sent};

@@ -14,7 +14,7 @@ ghost use Rattle.std.specs.List.{All};
 ghost use Rattle.book_captures.specs.declared.link_type.Protocol.TheVariants.{Ip, Labels};
 ghost use Rattle.book_captures.specs.Frames.{ethertype, behind_tags, behind_labels};
 ghost use Rattle.book_captures.specs.Spelled.{TagEntry, IsTag, first_kind, spell_tags, LabelEntry, spell_label};
-ghost use Rattle.book_captures.specs.Spelled.spell_labels;
+ghost use Rattle.book_captures.specs.Spelled.{spell_labels};
 
 /// Any number of tags in front of what a frame carries changes nothing (IEEE 802.1Q, 9.6), and a stack of
 /// labels is passed over up to its bottom (RFC 3032, section 2.1).

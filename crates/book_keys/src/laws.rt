@@ -10,7 +10,7 @@ ghost use Rattle.book_keys.specs.Shared.{shared_tables};
 ghost use Rattle.book_keys.specs.Nodes.{document_of, tables_of};
 ghost use Rattle.book_keys.specs.declared.fault.TableFault.TheVariants.{Syntax};
 ghost use Rattle.book_keys.specs.Overlaps.{Overlap, overlaps, AreApart, IsValid, TwoRows, first_overlap};
-ghost use Rattle.book_keys.specs.Overlaps.IsFirstOverlap;
+ghost use Rattle.book_keys.specs.Overlaps.{IsFirstOverlap};
 ghost use Rattle.book_keys.specs.Choices.{Numbered, latest, lowest, IsLatest, IsLowest};
 
 /// The test of two rows by their columns is true exactly where they overlap.

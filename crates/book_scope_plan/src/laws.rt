@@ -14,7 +14,7 @@ ghost use Rattle.book_scope_plan.specs.FindingTexts.{text_if};
 ghost use Rattle.book_scope_plan.specs.Notes.{notes_text};
 ghost use Rattle.book_scope_plan.specs.PlanTexts.{IsNoOther, aligned_line, changes_key, connection_line};
 ghost use Rattle.book_scope_plan.specs.PlanTexts.{connection_text, facing, is_good_plan, node_with, sent_at};
-ghost use Rattle.book_scope_plan.specs.PlanTexts.unchanged_line;
+ghost use Rattle.book_scope_plan.specs.PlanTexts.{unchanged_line};
 
 /// A plan is good exactly where both ends have nodes and the judgement on the connection is `Aligned`.
 pub fn aligned_plans_are_of_lint()

@@ -4,7 +4,7 @@ ghost use Rattle.std.specs.Prelude.{◌≡◌, ◌≤◌, ◌<◌, ◌*◌, ◌+
 ghost use Rattle.book_segments.specs.Segments.{complement_of, reading, two_octets_at, words_sum};
 ghost use Rattle.book_sessions.specs.AsSent.{has_next_header, has_wrong_header, header_checksum_of, is_segment};
 ghost use Rattle.book_sessions.specs.AsSent.{lacks_checksum, leads_elsewhere, may_lead_to_tcp, told_fault};
-ghost use Rattle.book_sessions.specs.AsSent.with_header_checksum;
+ghost use Rattle.book_sessions.specs.AsSent.{with_header_checksum};
 ghost use Rattle.capture_listener.specs.AsSent.{IsMended, complement_at};
 
 use std::alloc::{AllocError, Global};

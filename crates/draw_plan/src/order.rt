@@ -3,7 +3,7 @@ ghost use Rattle.std.specs.Prelude.{◌≡◌, ◌++◌, ◌≤◌, IfOk, OnOk, 
 ghost use Rattle.std.specs.List.{list_any};
 ghost use Rattle.book_draw_plan.specs.BarOrders.{accept_bars, accepts_alone, accepts_under, all_sending_bars};
 ghost use Rattle.book_draw_plan.specs.BarOrders.{bar_if, bars_of, bars_of_way, is_doing_in, plan_time, sending_bars};
-ghost use Rattle.book_draw_plan.specs.BarOrders.sends_under;
+ghost use Rattle.book_draw_plan.specs.BarOrders.{sends_under};
 ghost use Rattle.book_keys.specs.Rows.{row_limit};
 ghost use Rattle.book_scope_plan.specs.CalendarTexts.{side_of};
 ghost use Rattle.book_draw_plan.specs.declared.duty.Duty.TheVariants.{Accepts as accepts};

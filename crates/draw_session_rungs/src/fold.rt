@@ -4,7 +4,7 @@ ghost use Rattle.std.specs.Str.{bytes_eq};
 ghost use Rattle.book_draw_session.specs.Folds.{after_drawn, and_kind, fold_lines, fold_start, fold_step};
 ghost use Rattle.book_draw_session.specs.Folds.{folds_with, stands_within, kept_kind, kinds_to, folded_lines};
 ghost use Rattle.book_draw_session.specs.Folds.{counted_on, run_label, run_lines, run_with, says_again};
-ghost use Rattle.book_draw_session.specs.Folds.folded_session;
+ghost use Rattle.book_draw_session.specs.Folds.{folded_session};
 ghost use Rattle.book_draw_session.specs.Ladders.{reached_end};
 ghost use Rattle.book_draw_session.specs.Rungs.{has_flag};
 

@@ -2,7 +2,7 @@
 ghost use Rattle.std.specs.Prelude.{◌≡◌, ◌≤◌, ◌<◌, ◌++◌, IfOk, OnOk, codes};
 ghost use Rattle.std.specs.List.{list_any};
 ghost use Rattle.page_draw_session_svg.specs.SessionPictures.{and_key, key_name, key_sample_svg, key_samples_from};
-ghost use Rattle.page_draw_session_svg.specs.SessionPictures.keys_drawn;
+ghost use Rattle.page_draw_session_svg.specs.SessionPictures.{keys_drawn};
 ghost use Rattle.book_sessions.specs.Sessions.{same_id};
 ghost use Rattle.page_svg.specs.Tags.{colour_text};
 

@@ -1,6 +1,6 @@
 //! What is kept of the rungs above: which segments came, and where the arrows of segments begin.
 ghost use Rattle.std.specs.Prelude.{◌≡◌, ◌∷◌, ◌==◌, ◌<◌, ◌+◌, Some, None, ℕ, List, [], OnOk, get_or, length};
-ghost use Rattle.std.specs.Prelude.if◌then◌else◌;
+ghost use Rattle.std.specs.Prelude.{if◌then◌else◌};
 ghost use Rattle.std.specs.Option.{option_or};
 ghost use Rattle.book_draw.specs.declared.rung.Rung.{Rung as Step};
 ghost use Rattle.page_draw_svg.specs.Placements.{start_at, start_in, arrow_start, start_of_brought};

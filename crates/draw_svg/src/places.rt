@@ -2,7 +2,7 @@
 ghost use Rattle.std.specs.Prelude.{◌≡◌, ℕ, List, IfOk};
 ghost use Rattle.book_draw.specs.declared.rung.Rung.{Rung as Step};
 ghost use Rattle.page_draw_svg.specs.Placements.{label_of_rung, placed_at, start_of_rung, stroke_of_brought};
-ghost use Rattle.page_draw_svg.specs.Placements.stroke_of_rung;
+ghost use Rattle.page_draw_svg.specs.Placements.{stroke_of_rung};
 ghost use Rattle.draw_ladder.specs.Sights.{Saw};
 ghost use Rattle.draw_svg.specs.Kept.{Keeps};
 

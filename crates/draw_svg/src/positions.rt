@@ -2,7 +2,7 @@
 ghost use Rattle.std.specs.Prelude.{◌≡◌};
 ghost use Rattle.page_draw_svg.specs.Pictures.{end_column, is_at_once, label_column, label_height, lost_column};
 ghost use Rattle.page_draw_svg.specs.Pictures.{lost_height, margin_column, margin_height, row_height, start_column};
-ghost use Rattle.page_draw_svg.specs.Pictures.start_row;
+ghost use Rattle.page_draw_svg.specs.Pictures.{start_row};
 
 use book_base::End;
 use both_ends::is_same_end;

@@ -1,6 +1,6 @@
 //! The gaps of an end.
 ghost use Rattle.std.specs.Prelude.{◌≡◌, ℕ, ◌+◌, ◌-◌, ◌≤◌, ◌<◌, ◌&&◌, ◌++◌, nat_lt, nat_le, map, true, false, IfOk};
-ghost use Rattle.std.specs.Prelude.OnOk;
+ghost use Rattle.std.specs.Prelude.{OnOk};
 ghost use Rattle.book_keys.specs.Lifetimes.{is_covered};
 ghost use Rattle.book_keys.specs.Plans.{send_lifetimes};
 ghost use Rattle.book_plans.specs.Findings.{failing_spans, gap_finding, gap_findings};

@@ -8,7 +8,7 @@ ghost use Rattle.book_keys.specs.Rows.{row_limit};
 ghost use Rattle.book_plans.specs.Findings.{accepting_in};
 ghost use Rattle.book_plans.specs.Ways.{are_none, becomes_endless, changed_row, first_clash, fitting_accepting};
 ghost use Rattle.book_plans.specs.Ways.{fitting_sending, is_accepted, keeps_sending, accepting_obstacle, sending_in};
-ghost use Rattle.book_plans.specs.Ways.sending_obstacle;
+ghost use Rattle.book_plans.specs.Ways.{sending_obstacle};
 ghost use Rattle.key_plan.specs.Sides.{lasting, side_of};
 
 use crate::alike::is_accepting_from;

@@ -3,7 +3,7 @@ ghost use Rattle.std.specs.Prelude.{◌≡◌, ◌≤◌, codes, length, option_
 ghost use Rattle.toml.specs.Data.{get_member};
 ghost use Rattle.toml.specs.View.{table_view};
 ghost use Rattle.book_keys.specs.Columns.{text_of, is_absent_or, options_flag_of, protocol_of, kdf_of, algorithm_at};
-ghost use Rattle.book_keys.specs.Columns.master_of;
+ghost use Rattle.book_keys.specs.Columns.{master_of};
 ghost use Rattle.book_keys.specs.Reading.{ReadingGives};
 
 use crate::columns::{is_text, is_word_at, member_at, must, text_at};

@@ -7,7 +7,7 @@ ghost use Rattle.book_link.specs.declared.event.Event.TheVariants.{At};
 ghost use Rattle.book_link.specs.declared.event.Action.TheVariants.{Send, Resend, Deliver};
 ghost use Rattle.book_link.specs.Outcomes.{WithoutKey};
 ghost use Rattle.law_link.specs.Laws.{SetupFits, TablesFit, EventFits, IsCovered, RollsOver, IsAdmitted, HasOrigin};
-ghost use Rattle.law_link.specs.Laws.ResetsByAbort;
+ghost use Rattle.law_link.specs.Laws.{ResetsByAbort};
 ghost use Rattle.book_link.specs.Runs.{run};
 ghost use Rattle.book_link.specs.Steps.{step};
 ghost use Rattle.book_link.specs.Worlds.{Setup, Made};

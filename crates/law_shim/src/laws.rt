@@ -11,7 +11,7 @@ ghost use Rattle.book_segments.specs.Spelling.{AreBytes, Fits};
 ghost use Rattle.book_shim.specs.Arriving.{Opened, inbound, take_in};
 ghost use Rattle.law_shim.specs.Origins.{ComesOut, IsMet, IsOriginal};
 ghost use Rattle.law_shim.specs.Worlds.{Side, Event, World, Leaves, Arrives, pair_at, kept_at, step, run, was_made};
-ghost use Rattle.law_shim.specs.Worlds.IsBytewise;
+ghost use Rattle.law_shim.specs.Worlds.{IsBytewise};
 
 /// A datagram that is refused, on its way out or in, changes nothing.
 pub fn refused_changes_nothing()

@@ -4,7 +4,7 @@ ghost use Rattle.book_base.specs.Hexadecimal.{hex_of};
 ghost use Rattle.book_lines.specs.Texts.{spaced};
 ghost use Rattle.book_link.specs.Outcomes as book;
 ghost use Rattle.book_link.specs.Reports.{end_mark, flags_text, hex_or_none, lines_from, number_text, outcome_line};
-ghost use Rattle.book_link.specs.Reports.outcome_texts;
+ghost use Rattle.book_link.specs.Reports.{outcome_texts};
 ghost use Rattle.link_report.specs.Outcomes.{AreShown, Shows};
 
 use crate::arrival::push_answer;

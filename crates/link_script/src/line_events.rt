@@ -6,7 +6,7 @@ ghost use Rattle.book_lines.specs.Words.{word_as};
 ghost use Rattle.text_lines.specs.Readings.{gives, Tells};
 ghost use Rattle.book_cmd_link.specs.LinkEvents.{event_of_end, event_of_number, start_of, give_of, fill_of};
 ghost use Rattle.book_cmd_link.specs.LinkEvents.{inject_of, fixing_of, alter_of, dump_of, event_named};
-ghost use Rattle.book_cmd_link.specs.LinkEvents.link_event_of;
+ghost use Rattle.book_cmd_link.specs.LinkEvents.{link_event_of};
 ghost use Rattle.link_script.specs.Made.{MakesOf};
 ghost use Rattle.link_script.specs.Names.{name_text};
 

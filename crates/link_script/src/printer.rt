@@ -7,7 +7,7 @@ ghost use Rattle.book_cmd_link.specs.LinkFiles.{keys_by, script_of};
 ghost use Rattle.link_script.specs.Names.{name_text};
 ghost use Rattle.law_scripts.specs.Scripts.{IsScript};
 ghost use Rattle.law_scripts.specs.Printed.{event_words, fixing_text, key_lines, lines_text, socket_words, text_of};
-ghost use Rattle.law_scripts.specs.Printed.title_words;
+ghost use Rattle.law_scripts.specs.Printed.{title_words};
 
 use super::name::Name;
 use super::row_texts::push_row;

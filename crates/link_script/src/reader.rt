@@ -4,7 +4,7 @@ ghost use Rattle.book_lines.specs.declared.line_kind.LineKind.TheVariants as lin
 ghost use Rattle.text_lines.specs.Readings.{Answers, Tells};
 ghost use Rattle.book_cmd_link.specs.LinkEvents.{link_event_of};
 ghost use Rattle.book_cmd_link.specs.LinkFiles.{event_at, events_of, is_shared, key_in, keys_by, line_in, script_of};
-ghost use Rattle.book_cmd_link.specs.LinkFiles.shared_key_of;
+ghost use Rattle.book_cmd_link.specs.LinkFiles.{shared_key_of};
 ghost use Rattle.law_scripts.specs.Left.{leaves};
 ghost use Rattle.law_scripts.specs.Scripts.{IsScript};
 

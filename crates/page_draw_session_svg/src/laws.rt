@@ -10,7 +10,7 @@ ghost use Rattle.book_draw_session.specs.declared.span.DrawnTime.{DrawnTime as T
 ghost use Rattle.book_draw_session.specs.Times.{rungs_within};
 ghost use Rattle.page_draw_session_svg.specs.SessionPictures.{keys_drawn, line_in_row, line_of_row};
 ghost use Rattle.page_draw_session_svg.specs.SessionPictures.{session_line_svg, session_front_svg, session_rows};
-ghost use Rattle.page_draw_session_svg.specs.SessionPictures.session_svg;
+ghost use Rattle.page_draw_session_svg.specs.SessionPictures.{session_svg};
 
 /// A picture has an element for each line of the session, in their order, and no other: the one of place
 /// `i` stands in row `i`. The lines are those of the segments of which the text has its own, and those of the

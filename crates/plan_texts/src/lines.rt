@@ -2,7 +2,7 @@
 ghost use Rattle.std.specs.Prelude.{◌≡◌, ◌++◌, OnOk, option_map};
 ghost use Rattle.book_scope_plan.specs.FindingTexts.{times_text};
 ghost use Rattle.book_scope_plan.specs.PlanTexts.{connection_line, missing_text, missing_words, pair_words};
-ghost use Rattle.book_scope_plan.specs.PlanTexts.usual_socket_text;
+ghost use Rattle.book_scope_plan.specs.PlanTexts.{usual_socket_text};
 
 use ao_base::push_decimal;
 use book_base::{Address, Pair, Socket};

@@ -1,7 +1,7 @@
 //! The retransmission timer.
 ghost use Rattle.std.specs.Prelude.{◌≡◌, ◌≤◌, max, min};
 ghost use Rattle.book_timers.specs.Timers.{new_timer, sampled, expired, smoothed_with, value_of, least_value};
-ghost use Rattle.book_timers.specs.Timers.greatest_value;
+ghost use Rattle.book_timers.specs.Timers.{greatest_value};
 ghost use Rattle.rto_timer.specs.Bounds.{IsWithinADay, AreWithinADay};
 ghost use Rattle.rto_timer.specs.Millis.{finer_value, with_sample};
 

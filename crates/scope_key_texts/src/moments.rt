@@ -3,7 +3,7 @@ ghost use Rattle.std.specs.Prelude.{◌≡◌, ◌<◌, ◌++◌, OnOk};
 ghost use Rattle.toml_datetime.specs.Parse.{parse_datetime};
 ghost use Rattle.book_scope_keys.specs.Moments.{behind_clock, earlier_by, in_utc, is_zoneless, later_by};
 ghost use Rattle.book_scope_keys.specs.Moments.{moment_digits, moment_hint, moment_said, ones_digit, parts_moment};
-ghost use Rattle.book_scope_keys.specs.Moments.tens_digit;
+ghost use Rattle.book_scope_keys.specs.Moments.{tens_digit};
 
 use book_keys::LATEST;
 use scope_texts::{push_key_time, read_instant};

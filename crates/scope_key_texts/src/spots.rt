@@ -3,7 +3,7 @@ ghost use Rattle.std.specs.Prelude.{◌≡◌, ◌<◌, ◌≤◌, ◌+◌, ◌^
 ghost use Rattle.std.specs.List.{position, position_or_len, prefix_len};
 ghost use Rattle.book_base.specs.Lines.{is_blank};
 ghost use Rattle.book_scope_keys.specs.Places.{ends_key, is_header, is_spot, line_key_length, line_key, spot_past};
-ghost use Rattle.book_scope_keys.specs.Places.without_blanks;
+ghost use Rattle.book_scope_keys.specs.Places.{without_blanks};
 
 use book_scope_keys::KeySpot;
 

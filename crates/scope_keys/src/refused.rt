@@ -4,7 +4,7 @@ ghost use Rattle.toml.specs.Data.{get_member};
 ghost use Rattle.toml.specs.View.{table_view, view};
 ghost use Rattle.book_scope_keys.specs.FieldTexts.{finding_at};
 ghost use Rattle.book_scope_keys.specs.FileFindings.{data_called, file_place, key_place, node_data, overlap_said};
-ghost use Rattle.book_scope_keys.specs.FileFindings.refused_findings;
+ghost use Rattle.book_scope_keys.specs.FileFindings.{refused_findings};
 
 use crate::node::{file_place, node_at};
 use ao_base::push_decimal;

@@ -1,6 +1,6 @@
 //! The nine tests of a datagram.
 ghost use Rattle.std.specs.Prelude.{◌≡◌, ℕ, List, ◌+◌, ◌*◌, ◌/◌, ◌%◌, ◌<◌, ◌≤◌, length, slice_index, Some, None};
-ghost use Rattle.std.specs.Prelude.MatchResult;
+ghost use Rattle.std.specs.Prelude.{MatchResult};
 ghost use Rattle.book_segments.specs.Segments.{tcp_fault, v4_fault, v6_fault, first_fault, two_octets_at, is_extension};
 ghost use Rattle.tcp_segment.specs.Places.{PlacedBy, Placed};
 

@@ -1,6 +1,6 @@
 //! Sums of 16-bit words, and the checksums that they make (RFC 1071).
 ghost use Rattle.std.specs.Prelude.{◌≡◌, ℕ, ◌+◌, ◌-◌, ◌*◌, ◌%◌, ◌^◌, ◌<◌, ◌≤◌, ◌++◌, List, [], length, take, drop};
-ghost use Rattle.std.specs.Prelude.slice_index;
+ghost use Rattle.std.specs.Prelude.{slice_index};
 ghost use Rattle.book_segments.specs.Segments.{words_sum, sums, two_octets_at, four_octets_at, Segment, spell_as};
 ghost use Rattle.book_segments.specs.Segments.{pseudo, tcp_length, complement_of};
 ghost use Rattle.book_segments.specs.Bytes.{put2};

@@ -7,7 +7,7 @@ ghost use Rattle.book_why.specs.Judging.{suspect_context};
 ghost use Rattle.book_why.specs.Recipes.{mac_made, recipe_of};
 ghost use Rattle.book_why_texts.specs.MacTexts.{agrees_text, computed_line, extension_part, header_part};
 ghost use Rattle.book_why_texts.specs.MacTexts.{input_lines, key_line_if, mac_lines, options_part, part_line};
-ghost use Rattle.book_why_texts.specs.MacTexts.pseudo_part;
+ghost use Rattle.book_why_texts.specs.MacTexts.{pseudo_part};
 ghost use Rattle.tcp_options.specs.Views.{view_ao};
 ghost use Rattle.why_macs.specs.Views.{both_view, recipe_view, suspect_view};
 

@@ -4,7 +4,7 @@ ghost use Rattle.std.specs.List.{flat_map};
 ghost use Rattle.book_lines.specs.Texts.{spaced};
 ghost use Rattle.book_why.specs.Changes.{table_at};
 ghost use Rattle.book_why.specs.ChangeTexts.{change_details, change_name, lines_of_passing, node_name, options_text};
-ghost use Rattle.book_why.specs.ChangeTexts.passing_line;
+ghost use Rattle.book_why.specs.ChangeTexts.{passing_line};
 ghost use Rattle.why_macs.specs.Views.{both_view, suspect_view};
 
 use crate::suspect::{BothTables, Suspect};
