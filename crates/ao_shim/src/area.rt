@@ -3,7 +3,7 @@ ghost use Rattle.std.specs.Prelude.{◌≡◌, ◌+◌, ◌≤◌, ◌++◌, ◌
 ghost use Rattle.tcp_options.specs.Views.{view_opt};
 ghost use Rattle.book_segments.specs.Bytes.{put2};
 ghost use Rattle.book_shim.specs.Relaying.{spelled, sack, going, is_left_out, coming, with_mss, in_words};
-ghost use Rattle.book_shim.specs.Relaying.lowered as mss_lowered;
+ghost use Rattle.book_shim.specs.Relaying.{lowered as mss_lowered};
 ghost use Rattle.ao_shim.specs.Puts.{Puts};
 
 use book_shim::Trim;

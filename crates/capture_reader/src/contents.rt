@@ -1,7 +1,7 @@
 //! What the blocks of a pcapng file say.
 ghost use Rattle.std.specs.Prelude.{◌≡◌, ◌<◌, ◌==◌, ◌&&◌, length, drop, MatchOption, Some, None};
-ghost use Rattle.book_captures.specs.BlockContents.resolution_of as resolution_of_byte;
-ghost use Rattle.book_captures.specs.BlockContents.resolution_told as resolution_told_by;
+ghost use Rattle.book_captures.specs.BlockContents.{resolution_of as resolution_of_byte};
+ghost use Rattle.book_captures.specs.BlockContents.{resolution_told as resolution_told_by};
 ghost use Rattle.book_captures.specs.BlockContents.{option_in as value_of_option, eight_at};
 ghost use Rattle.book_captures.specs.BlockContents.{offset_of as offset_told, offset_by as offset_told_by};
 ghost use Rattle.book_captures.specs.BlockContents.{interface_in, stamped_in, enhanced_in, old_in};

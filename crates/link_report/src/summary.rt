@@ -4,7 +4,7 @@ ghost use Rattle.book_base.specs.declared.end.End.TheVariants.{A, B};
 ghost use Rattle.book_lines.specs.Texts.{end_text, line_text, spaced};
 ghost use Rattle.book_link.specs.Reports.{number_text, session_lines, shown_text, summary};
 ghost use Rattle.book_link.specs.Worlds.{LinkSide as EndSide, World, forgeries as count_of_forgeries};
-ghost use Rattle.book_link.specs.Worlds.segments as count_of_segments;
+ghost use Rattle.book_link.specs.Worlds.{segments as count_of_segments};
 ghost use Rattle.link_report.specs.Lines.{facts_line, kept_lines};
 ghost use Rattle.link_side.specs.Sides.{StandsSide, kept_facts};
 
