@@ -11,10 +11,10 @@ ghost use Rattle.law_keys.specs.FirstFindings.{BeginsWith, IsFindingOf};
 
 use book_base::Bytes;
 use book_scope_keys::{KeyFinding, KeyPlace, findings_are_of_the_walk};
-use key_table::{TableFault, Tables, read_tables};
+use key_table::{TableFault, Tables, Unread, read_document, tables_in};
 use law_keys::first_finding_is_the_fault;
 use scope_key_rows::push_finding;
-use scope_keys::{Unread, findings, read_document};
+use scope_keys::findings;
 use std::alloc::{AllocError, Global};
 use toml::Table;
 
@@ -90,7 +90,7 @@ fn in_document(alloc: Global, text: &[u8], document: &Table) -> Result<Vec<KeyFi
     requires { document_of text.now ≡ Some (table_view document.now) }
     ensures { IfOk result (λ found. found.items ≡ key_findings text.now) }
 {
-    match read_tables(alloc, text) {
+    match tables_in(alloc, document) {
         Ok(tables) => Ok(none_found(alloc, text, &tables)),
         Err(fault) => refused(alloc, text, document, fault),
     }
@@ -101,6 +101,7 @@ fn all_findings(alloc: Global, text: &[u8]) -> Result<Vec<KeyFinding>, AllocErro
 {
     match read_document(alloc, text) {
         Ok(document) => in_document(alloc, text, &document),
+        Err(Unread::NotUtf8(_)) => undocumented(alloc, text),
         Err(Unread::NotToml(_, _)) => undocumented(alloc, text),
         Err(Unread::Memory) => Err(AllocError),
     }

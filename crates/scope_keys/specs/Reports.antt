@@ -1,17 +1,9 @@
 -- What is reported of a key file.
-use Rattle.std.specs.Prelude.{◌≡◌, ℕ, ◌≤◌, Bool, true, false, List, length, None}
+use Rattle.std.specs.Prelude.{◌≡◌, ℕ, ◌≤◌, Bool, true, false, List, length}
 use Rattle.book_keys.specs.declared.fault.TableFault.{TableFault}
 use Rattle.book_keys.specs.declared.fault.TableFault.TheVariants as fault
-use Rattle.book_keys.specs.Nodes.{document_of}
 use Rattle.book_scope_keys.specs.declared.finding.TomlFault.{TomlFault}
 use Rattle.book_scope_keys.specs.FileFindings.{key_report}
-use Rattle.scope_keys.specs.declared.document.Unread.{Unread}
-use Rattle.scope_keys.specs.declared.document.Unread.TheVariants.{NotToml, Memory}
-
--- a text gave no document since it is none, from a byte of it on, unless memory ran out (own)
-abbrev pub Unreadable : List ℕ → Unread → Type 0
-Unreadable text (NotToml i why) = (document_of text ≡ None) × (i ≤ length text)
-Unreadable text Memory = Unit {0}
 
 -- what is written is the book's report; where the text is no TOML, it is none from one of its bytes
 -- on, for one of the reasons (own)

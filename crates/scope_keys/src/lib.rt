@@ -2,7 +2,6 @@
 //! each with its place in the text, its value and what is wanted.
 #![tactic(auto)]
 
-mod document;
 mod fields;
 mod file;
 mod node;
@@ -12,6 +11,5 @@ mod report;
 mod seen;
 mod toml_fault;
 
-pub use document::{Unread, read_document};
 pub use file::findings;
 pub use report::answer_keys;

@@ -8,12 +8,12 @@ ghost use Rattle.book_scope_keys.specs.Places.{key_finding_line};
 ghost use Rattle.book_keys.specs.Reading.{Fails};
 ghost use Rattle.scope_keys.specs.Reports.{IsKeyReport, is_memory};
 
-use crate::document::{Unread, read_document};
 use crate::file::{findings, has_nodes, push_lines, push_syntax, push_tables};
+use crate::toml_fault::fault_of;
 use book_base::Bytes;
 use book_scope_keys::TomlFault;
 use command_report::Report;
-use key_table::{TableFault, Tables, read_tables};
+use key_table::{TableFault, Tables, Unread, read_document, tables_in};
 use std::alloc::{AllocError, Global};
 use toml::Table;
 
@@ -78,7 +78,6 @@ fn faulty_report(
 ) -> Result<Report, AllocError>
     requires document { document_of text.now ≡ Some (table_view document.now) }
     requires refused { tables_of text.now ≡ Err fault }
-    requires syntax { (tables_of text.now ≡ Err TableFault.Syntax) ↔ (document_of text.now ≡ None) }
     ensures text { IfOk result (λ report. IsKeyReport text.now report.text) }
     ensures amiss { IfOk result (λ report. report.is_amiss ≡ not (has_nodes (tables_of text.now))) }
 {
@@ -98,7 +97,6 @@ fn refused_report(
 ) -> Result<Report, AllocError>
     requires document { document_of text.now ≡ Some (table_view document.now) }
     requires refused { Fails fault (tables_of text.now) }
-    requires syntax { (tables_of text.now ≡ Err TableFault.Syntax) ↔ (document_of text.now ≡ None) }
     ensures text { IfOk result (λ report. IsKeyReport text.now report.text) }
     ensures amiss { IfOk result (λ report. report.is_amiss ≡ not (has_nodes (tables_of text.now))) }
 {
@@ -114,7 +112,7 @@ fn document_report(alloc: Global, text: &[u8], document: &Table) -> Result<Repor
     ensures text { IfOk result (λ report. IsKeyReport text.now report.text) }
     ensures amiss { IfOk result (λ report. report.is_amiss ≡ not (has_nodes (tables_of text.now))) }
 {
-    match read_tables(alloc, text) {
+    match tables_in(alloc, document) {
         Ok(tables) => good_report(alloc, text, &tables),
         Err(fault) => refused_report(alloc, text, document, fault),
     }
@@ -146,7 +144,8 @@ fn report(alloc: Global, text: &[u8]) -> Result<Report, AllocError>
 {
     match read_document(alloc, text) {
         Ok(document) => document_report(alloc, text, &document),
-        Err(Unread::NotToml(at, why)) => syntax_report(alloc, at, why, text),
+        Err(Unread::NotUtf8(at)) => syntax_report(alloc, at, TomlFault::Utf8, text),
+        Err(Unread::NotToml(at, why)) => syntax_report(alloc, at, fault_of(why.message()), text),
         Err(Unread::Memory) => Err(AllocError),
     }
 }

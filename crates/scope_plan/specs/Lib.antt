@@ -1,3 +1,2 @@
 pub mod Facings
-pub mod KeyFiles
 pub mod Plannings

@@ -7,7 +7,7 @@ ghost use Rattle.book_scope_plan.specs.PlanTexts.{aligned_line, begins_sending, 
 ghost use Rattle.book_scope_plan.specs.PlanTexts.{findings_text, has_none, is_good_plan, margin_text, node_with};
 ghost use Rattle.book_scope_plan.specs.PlanTexts.{nodes_text, plan_findings, unchanged_line};
 ghost use Rattle.scope_plan.specs.Facings.{facing_of};
-ghost use Rattle.scope_plan.specs.KeyFiles.{key_file_of};
+ghost use Rattle.key_file.specs.KeyFiles.{key_file_of};
 
 use crate::calendar::push_calendar;
 use crate::facing::Facing;

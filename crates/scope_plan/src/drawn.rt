@@ -4,7 +4,7 @@ ghost use Rattle.book_draw_plan.specs.Bars.{both_bars, drawing_text, nodes_bars}
 ghost use Rattle.page_draw_plan_svg.specs.PlanLines.{drawing_lines};
 ghost use Rattle.book_scope_plan.specs.PlanTexts.{connection_line, has_none, is_good_plan, missing_text, node_with};
 ghost use Rattle.book_scope_plan.specs.PlanTexts.{plan_findings};
-ghost use Rattle.scope_plan.specs.KeyFiles.{key_file_of};
+ghost use Rattle.key_file.specs.KeyFiles.{key_file_of};
 ghost use Rattle.draw_plan_svg.specs.Draws.{Draws};
 ghost use Rattle.scope_plan.specs.Plannings.{connection_as, framed_plan, lines_as};
 

@@ -3,7 +3,7 @@ ghost use Rattle.std.specs.Prelude.{◌≡◌};
 ghost use Rattle.book_scope_plan.specs.FindingTexts.{facing_at};
 ghost use Rattle.book_scope_plan.specs.PlanTexts.{facing};
 ghost use Rattle.scope_plan.specs.Facings.{facing_of};
-ghost use Rattle.scope_plan.specs.KeyFiles.{key_file_of};
+ghost use Rattle.key_file.specs.KeyFiles.{key_file_of};
 
 use book_base::{End, Pair};
 use book_cmd_keys::Plan;

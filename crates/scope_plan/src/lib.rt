@@ -22,5 +22,4 @@ mod short;
 mod told;
 mod ways;
 
-pub use key_file::{KeyFile, read_key_file};
 pub use plans::answer_plan;

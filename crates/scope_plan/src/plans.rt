@@ -9,7 +9,7 @@ ghost use Rattle.book_scope_plan.specs.FindingTexts.{one_if};
 ghost use Rattle.book_scope_plan.specs.PlanTexts.{changes_key};
 ghost use Rattle.book_answer.specs.Answers.{if_read};
 ghost use Rattle.command_report.specs.Reports.{Reports};
-ghost use Rattle.scope_plan.specs.KeyFiles.{key_file_of};
+ghost use Rattle.key_file.specs.KeyFiles.{key_file_of};
 ghost use Rattle.scope_plan.specs.Plannings.{no_plan, planned_answer, planned_from, plannings};
 
 use crate::connection::read_connection;

@@ -11,7 +11,7 @@ use Rattle.book_scope_run.specs.declared.halt.Origin.{Origin}
 use Rattle.book_scope_run.specs.declared.halt.Origin.TheVariants.{KeyFile, IsnFile}
 use Rattle.book_scope_run.specs.Endings.{most_from}
 use Rattle.book_scope_plan.specs.AdminNames.{KeyFile as Sheets}
-use Rattle.scope_plan.specs.KeyFiles.{key_file_of}
+use Rattle.key_file.specs.KeyFiles.{key_file_of}
 use Rattle.key_file.specs.declared.reading.KeyFile.{KeyFile as FileRead}
 use Rattle.scope_run.specs.declared.reading.Files.{Files}
 use Rattle.scope_run.specs.Sides.{Unread}

@@ -3,7 +3,7 @@ ghost use Rattle.std.specs.Prelude.{◌≡◌, ℕ, List, [], Ok};
 ghost use Rattle.ao_base.specs.Outside.{Side};
 ghost use Rattle.book_lines.specs.Said.{said_in};
 ghost use Rattle.book_scope_plan.specs.Connections.{plan_pair_of};
-ghost use Rattle.scope_plan.specs.KeyFiles.{key_file_of};
+ghost use Rattle.key_file.specs.KeyFiles.{key_file_of};
 ghost use Rattle.scope_run.specs.Acts.{Plans, PlansBy, ReadsAndPlans};
 ghost use Rattle.scope_run.specs.Answers.{Makes, connections_answer, plan_answer};
 ghost use Rattle.scope_run.specs.Requests.{plan_form_of, plan_wanted};
