@@ -1,3 +1,4 @@
+pub mod Documents
 pub mod Ranges
 pub mod Loans
 pub mod Pairs

@@ -5,6 +5,7 @@
 #![tactic(auto)]
 
 mod columns;
+mod document;
 mod gap;
 mod ids;
 mod master_key;
@@ -28,6 +29,7 @@ pub use book_keys::{
     Accept, AddRefusal, Column, Direction, LATEST, Lifetime, MOST_KEYS, NewRow, NoRow, TableFault,
 };
 pub use columns::{is_word_at, member_at, text_at};
+pub use document::{Unread, read_document};
 pub use gap::first_gap;
 pub use ids::{id_at, is_admin_at};
 pub use mirror::mirrored;
@@ -35,7 +37,7 @@ pub use nodes::is_visible;
 pub use peers::peer_of;
 pub use ports::port_at;
 pub use protocol::{is_everywhere, kdf_at, options_at};
-pub use read::read_tables;
+pub use read::{read_tables, tables_in};
 pub use row::{Row, fits_port, has_peer};
 pub use rows::ROW_KEYS;
 pub use table::Table;
