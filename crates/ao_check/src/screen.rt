@@ -56,7 +56,7 @@ pub(crate) fn screen_segment<'a>(
     datagram: &Datagram<'a>,
 ) -> Result<Screened<'a>, Refusal>
     requires { IsBelow expected }
-    ensures judged { Screens table.now.rows pair.now own_isn peer_isn now datagram.now result
+    ensures { Screens table.now.rows pair.now own_isn peer_isn now datagram.now result
         (judge table.now.rows pair.now (record { own_isn = own_isn; peer_isn = peer_isn; expected = expected }) now
         datagram.now) }
 {
