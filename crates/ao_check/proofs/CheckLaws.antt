@@ -19,8 +19,8 @@ use Rattle.book_keys.specs.Lookups.{number_of}
 use Rattle.book_base.specs.declared.address.Pair.{Pair}
 use Rattle.tcp_options.specs.Views.{view_ao}
 use Rattle.ao_check.specs.declared.screen.Screened.{Screened}
-use Rattle.book_endpoint.specs.declared.verdict.Passed.{Passed}
-use Rattle.book_endpoint.specs.declared.verdict.Verdict.TheVariants.{BadMac}
+use Rattle.book_endpoint.specs.declared.passed.Passed.{Passed}
+use Rattle.book_endpoint.specs.declared.refusal.Refusal.TheVariants.{BadMac}
 use Rattle.ao_check.specs.Bonds.{Bond, key_for, Fits, keys_after, steps_of, Counted}
 use Rattle.ao_check.specs.Verdicts.{Names, Awaits, by_mac, judging}
 use Rattle.ao_check.proofs.KeyLaws.{AtPlace, accepted_at, same_row, got, inbound_key, outbound_key, kept_right, fits_after, counted_after}

@@ -15,7 +15,7 @@ use Rattle.std.specs.Option.{option_or}
 use Rattle.book_base.specs.Algorithms.{mac_length_of}
 use Rattle.book_endpoint.specs.Verdicts.{Finding, Judgement, judge, segment_number, found_with, mac_of}
 use Rattle.book_endpoint.proofs.JudgeSteps.{judge_by_steps, judge_ao, judge_row, judge_context, judge_number, judge_mac}
-use Rattle.book_endpoint.specs.declared.verdict.Verdict.TheVariants.{NoTuple, Expired, MacLength, NoContext, Range, BadMac}
+use Rattle.book_endpoint.specs.declared.refusal.Refusal.TheVariants.{NoTuple, Expired, MacLength, NoContext, Range, BadMac}
 use Rattle.ao_check.proofs.KeyLaws.{accepted_at, same_row}
 use Rattle.book_keys.specs.Lookups.{accept_answer, accept_of}
 use Rattle.book_keys.specs.declared.accept.Accept.{Accept}

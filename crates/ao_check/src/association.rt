@@ -18,7 +18,7 @@ ghost use Rattle.ao_kdf.specs.declared.way.Way.TheVariants.{Inbound, Outbound};
 ghost use Rattle.key_coordination.specs.Sendings.{told};
 ghost use Rattle.ao_check.specs.Bonds.{fresh, Fits, Counted};
 ghost use Rattle.tcp_options.specs.Views.{view_ao};
-ghost use Rattle.ao_check.specs.Verdicts.{IsExpected, IsRefusal, Tells, is_judged, judging, verdict_of};
+ghost use Rattle.ao_check.specs.Verdicts.{IsExpected, Tells, is_judged, judging, verdict_of};
 ghost use Rattle.ao_check.specs.Signings.{IsToSign, has_field};
 
 use crate::context::outgoing;
@@ -28,7 +28,7 @@ use crate::screen::screen_segment;
 use ao_base::Steps;
 use ao_kdf::{Context, KeyCache};
 use book_base::Pair;
-use book_endpoint::{Passed, Verdict};
+use book_endpoint::{Passed, Refusal};
 use key_coordination::{Choice, Sending};
 use key_table::Table;
 use std::alloc::{AllocError, Global};
@@ -105,7 +105,7 @@ impl Association {
         expected: Option<u64>,
         datagram: &Datagram<'a>,
         steps: &mut Steps<L>,
-    ) -> Result<Passing<'a>, Verdict>
+    ) -> Result<Passing<'a>, Refusal>
         requires fits { Fits table.now.rows self.old }
         requires source { datagram.now.source ≡ self.old.pair.remote }
         requires destination { datagram.now.destination ≡ self.old.pair.local }
@@ -114,7 +114,6 @@ impl Association {
             (judge table.now.rows self.old.pair
             (record { own_isn = self.old.own; peer_isn = self.old.peer; expected = expected }) now datagram.now) }
         ensures option { IfOk result (λ p. find_ao datagram.now.area ≡ One (view_ao p.option)) }
-        ensures refusal { IfErr result (λ v. IsRefusal v) }
         ensures same { self.new ≡ record self.old { keys = self.new.keys } }
         ensures fits { Fits table.now.rows self.new }
         ensures counted { Counted self.old.keys self.new.keys
@@ -130,12 +129,12 @@ impl Association {
             expected,
             datagram,
         ) {
-            Err(verdict) => return Err(verdict),
+            Err(why) => return Err(why),
             Ok(seen) => seen,
         };
         let row = table.row(seen.row);
         if !has_right_mac(&mut self.keys, row, &seen, datagram, steps) {
-            return Err(Verdict::BadMac);
+            return Err(Refusal::BadMac);
         }
         Ok(Passing {
             passed: Passed {
@@ -159,7 +158,7 @@ impl Association {
         expected: Option<u64>,
         datagram: &Datagram<'_>,
         steps: &mut Steps<L>,
-    ) -> Verdict
+    ) -> Result<Passed, Refusal>
         requires fits { Fits table.now.rows self.old }
         requires source { datagram.now.source ≡ self.old.pair.remote }
         requires destination { datagram.now.destination ≡ self.old.pair.local }
@@ -174,8 +173,8 @@ impl Association {
             (has SYN datagram.now) steps.old steps.new }
     {
         match self.check_with_option(table, now, expected, datagram, steps) {
-            Ok(passing) => Verdict::Pass(passing.passed),
-            Err(verdict) => verdict,
+            Ok(passing) => Ok(passing.passed),
+            Err(why) => Err(why),
         }
     }
 

@@ -17,7 +17,7 @@ mod syn;
 mod under;
 
 pub use association::Association;
-pub use book_endpoint::Verdict;
+pub use book_endpoint::{Passed, Refusal};
 pub use laws::{fits_once_added, fits_once_withdrawn, signed_passes};
 pub use passing::Passing;
 pub use syn::check_syn;

@@ -8,14 +8,14 @@ ghost use Rattle.book_macs.specs.MacInput.{mac_input};
 ghost use Rattle.book_endpoint.specs.Verdicts.{judge};
 ghost use Rattle.tcp_options.specs.Views.{view_ao, view_found};
 ghost use Rattle.ao_check.specs.Contexts.{IsBelow};
-ghost use Rattle.ao_check.specs.Verdicts.{IsRefusal, Screens, Tells};
+ghost use Rattle.ao_check.specs.Verdicts.{Screens, Tells};
 
 use crate::compare::is_same;
 use crate::context::{context_of, ends_late, is_silent, number_of};
 use ao_kdf::{Context, TrafficKey};
 use ao_mac::mac_over;
 use book_base::Pair;
-use book_endpoint::Verdict;
+use book_endpoint::Refusal;
 use key_table::{Accept, Row, Table};
 use tcp_options::{AoFound, AoOption};
 use tcp_segment::Datagram;
@@ -54,41 +54,40 @@ pub(crate) fn screen_segment<'a>(
     now: u64,
     expected: Option<u64>,
     datagram: &Datagram<'a>,
-) -> Result<Screened<'a>, Verdict>
+) -> Result<Screened<'a>, Refusal>
     requires { IsBelow expected }
-    ensures judged { Screens table.now.rows pair.now own_isn peer_isn now datagram.now result
+    ensures { Screens table.now.rows pair.now own_isn peer_isn now datagram.now result
         (judge table.now.rows pair.now (record { own_isn = own_isn; peer_isn = peer_isn; expected = expected }) now
         datagram.now) }
-    ensures refusal { IfErr result (λ v. IsRefusal v) }
 {
     let ao = match found(datagram) {
-        AoFound::Absent => return Err(Verdict::NoAo),
-        AoFound::Two => return Err(Verdict::TwoAo),
-        AoFound::WithMd5 => return Err(Verdict::WithMd5),
+        AoFound::Absent => return Err(Refusal::NoAo),
+        AoFound::Two => return Err(Refusal::TwoAo),
+        AoFound::WithMd5 => return Err(Refusal::WithMd5),
         AoFound::One(ao) => ao,
     };
     let row = match table.accept_row(pair, ao.key_id, now) {
-        Accept::Absent => return Err(Verdict::NoTuple),
-        Accept::Expired => return Err(Verdict::Expired),
+        Accept::Absent => return Err(Refusal::NoTuple),
+        Accept::Expired => return Err(Refusal::Expired),
         Accept::Row(row) => row,
     };
     let entry = table.row(row);
     if !has_length(ao.mac, entry) {
-        return Err(Verdict::MacLength);
+        return Err(Refusal::MacLength);
     }
     let context = match context_of(datagram, peer_isn, Some(own_isn)) {
-        None => return Err(Verdict::NoContext),
+        None => return Err(Refusal::NoContext),
         Some(context) => context,
     };
     if is_silent(datagram, expected) {
-        return Err(Verdict::NoContext);
+        return Err(Refusal::NoContext);
     }
     let number = match number_of(datagram, expected) {
-        None => return Err(Verdict::Range),
+        None => return Err(Refusal::Range),
         Some(number) => number,
     };
     if ends_late(datagram, number) {
-        return Err(Verdict::Range);
+        return Err(Refusal::Range);
     }
     Ok(Screened {
         row,

@@ -6,14 +6,14 @@ ghost use Rattle.book_macs.specs.Contexts.{bytes_of};
 ghost use Rattle.book_macs.specs.Keys.{key_length, traffic_key};
 ghost use Rattle.book_endpoint.specs.Verdicts.{judge};
 ghost use Rattle.tcp_options.specs.Views.{view_ao};
-ghost use Rattle.ao_check.specs.Verdicts.{IsRefusal, Tells, verdict_of};
+ghost use Rattle.ao_check.specs.Verdicts.{Tells, verdict_of};
 
 use crate::passing::Passing;
 use crate::screen::{is_right, screen_segment};
 use ao_base::Steps;
 use ao_kdf::{Context, TrafficKey, traffic_key};
 use book_base::Pair;
-use book_endpoint::{Passed, Verdict};
+use book_endpoint::{Passed, Refusal};
 use key_table::{Row, Table};
 use std::sync::ledger::Ledger;
 use tcp_segment::Datagram;
@@ -38,7 +38,7 @@ pub fn check_syn<'a, L: Ledger>(
     now: u64,
     datagram: &Datagram<'a>,
     steps: &mut Steps<L>,
-) -> Result<Passing<'a>, Verdict>
+) -> Result<Passing<'a>, Refusal>
     requires syn { has SYN datagram.now ≡ true }
     requires source { datagram.now.source ≡ pair.now.remote }
     requires destination { datagram.now.destination ≡ pair.now.local }
@@ -46,17 +46,16 @@ pub fn check_syn<'a, L: Ledger>(
         (judge table.now.rows pair.now (record { own_isn = own_isn; peer_isn = None; expected = None }) now
         datagram.now) }
     ensures option { IfOk result (λ p. find_ao datagram.now.area ≡ One (view_ao p.option)) }
-    ensures refusal { IfErr result (λ v. IsRefusal v) }
     ensures most { steps.new ≤ steps.old + 1 }
 {
     let seen = match screen_segment(pair, own_isn, None, table, now, None, datagram) {
-        Err(verdict) => return Err(verdict),
+        Err(why) => return Err(why),
         Ok(seen) => seen,
     };
     let row = table.row(seen.row);
     let key = derived(row, &seen.context, steps);
     if !is_right(&key, row, seen.number, datagram, seen.option) {
-        return Err(Verdict::BadMac);
+        return Err(Refusal::BadMac);
     }
     Ok(Passing {
         passed: Passed {

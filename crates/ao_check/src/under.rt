@@ -11,7 +11,7 @@ ghost use Rattle.ao_kdf.specs.declared.way.Way.TheVariants.{Inbound, Outbound};
 ghost use Rattle.ao_mac.specs.Macs.{IsMacOf};
 ghost use Rattle.tcp_options.specs.Views.{view_ao};
 ghost use Rattle.ao_check.specs.Bonds.{Fits, Counted, keys_after, steps_of};
-ghost use Rattle.ao_check.specs.Verdicts.{IsExpected, IsRefusal, Tells, is_judged, judging, verdict_of};
+ghost use Rattle.ao_check.specs.Verdicts.{IsExpected, Tells, is_judged, judging, verdict_of};
 
 use crate::key::has_right_mac;
 use crate::passing::Passing;
@@ -20,7 +20,7 @@ use ao_base::Steps;
 use ao_kdf::{Context, KeyCache, Way, traffic_key};
 use ao_mac::{MacBytes, mac_over};
 use book_base::Pair;
-use book_endpoint::{Passed, Verdict};
+use book_endpoint::{Passed, Refusal};
 use key_table::{Row, Table};
 use std::sync::ledger::Ledger;
 use tcp_options::AoOption;
@@ -39,7 +39,7 @@ pub fn check_under<'a, L: Ledger>(
     expected: Option<u64>,
     datagram: &Datagram<'a>,
     steps: &mut Steps<L>,
-) -> Result<Passing<'a>, Verdict>
+) -> Result<Passing<'a>, Refusal>
     requires fits { Fits table.now.rows
         (record { pair = pair.now; own = own_isn; peer = peer_isn; current = None; keys = keys.old }) }
     requires source { datagram.now.source ≡ pair.now.remote }
@@ -49,19 +49,18 @@ pub fn check_under<'a, L: Ledger>(
         (judge table.now.rows pair.now (record { own_isn = own_isn; peer_isn = peer_isn; expected = expected }) now
         datagram.now) }
     ensures option { IfOk result (λ p. find_ao datagram.now.area ≡ One (view_ao p.option)) }
-    ensures refusal { IfErr result (λ v. IsRefusal v) }
     ensures fits { Fits table.now.rows
         (record { pair = pair.now; own = own_isn; peer = peer_isn; current = None; keys = keys.new }) }
     ensures counted { Counted keys.old keys.new (judging table.now.rows pair.now now (find_ao datagram.now.area))
         (is_judged (verdict_of result)) Inbound (has SYN datagram.now) steps.old steps.new }
 {
     let seen = match screen_segment(pair, own_isn, peer_isn, table, now, expected, datagram) {
-        Err(verdict) => return Err(verdict),
+        Err(why) => return Err(why),
         Ok(seen) => seen,
     };
     let row = table.row(seen.row);
     if !has_right_mac(keys, row, &seen, datagram, steps) {
-        return Err(Verdict::BadMac);
+        return Err(Refusal::BadMac);
     }
     Ok(Passing {
         passed: Passed {

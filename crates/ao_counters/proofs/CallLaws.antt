@@ -9,7 +9,7 @@ use Rattle.book_keys.specs.Tables.{Adding, AddedAs, OverlapsRow, TooMany, adding
 use Rattle.book_endpoint.specs.declared.arrival.Arrival.TheVariants.{Bad}
 use Rattle.book_endpoint.specs.States.{EndState}
 use Rattle.book_endpoint.specs.Verdicts.{Judgement}
-use Rattle.book_endpoint.specs.declared.verdict.Verdict.{Verdict}
+use Rattle.book_endpoint.specs.declared.refusal.Refusal.{Refusal}
 use Rattle.book_cmd_node.specs.declared.node.Act.{Act}
 use Rattle.book_cmd_node.specs.declared.node.NodeEvent.{NodeEvent}
 use Rattle.book_cmd_node.specs.declared.node.NodeEvent.TheVariants as event
@@ -40,7 +40,7 @@ knocks_not : (q : Pair) (b : Bool) (o : NodeOutcome) → answer_moving b o ≡ K
 knocks_not q true o h = absurd (cc)
 knocks_not q false o h = absurd (cc)
 
-refuses_not : (why : Verdict) (b : Bool) (o : NodeOutcome) → answer_moving b o ≡ Refuses why → ⊥
+refuses_not : (why : Refusal) (b : Bool) (o : NodeOutcome) → answer_moving b o ≡ Refuses why → ⊥
 refuses_not why true o h = absurd (cc)
 refuses_not why false o h = absurd (cc)
 
@@ -119,14 +119,14 @@ module _ (coming : Incoming) (t : StackState) (n : StackCounts) where
     came_knocks (Unread fault) h = absurd (cc)
     came_knocks (Read d) h = let x = held_end (pair_reached d) t.node.ends in read_knocks d x (asks d x) h
 
-  module _ (why : Verdict) where
+  module _ (why : Refusal) where
     pair_refuses : (p : Pair) (d : Segment) (x : Option EndState) → (heard_pair coming p d t x).answer ≡ Refuses why → ⊥
     pair_refuses p d None h = absurd (cc)
     pair_refuses p d (Some e) h = refuses_not why _ _ h
 
     asked_refuses : (d : Segment) (x : Option EndState) (j : Judgement) → (asked_for coming d t x j).answer ≡ Refuses why → call_counted (asked_for coming d t x j) n ≡ record n { node = refusal_counted why n.node }
     asked_refuses d x (Ok f) h = absurd (cc)
-    asked_refuses d None (Err cause) h = let same : cause ≡ why = cc in ap (λ (v : Verdict). let k : StackCounts = record n { node = refusal_counted v n.node } in k) same
+    asked_refuses d None (Err cause) h = let same : cause ≡ why = cc in ap (λ (v : Refusal). let k : StackCounts = record n { node = refusal_counted v n.node } in k) same
     asked_refuses d (Some e) (Err cause) h = absurd (pair_refuses (pair_reached d) d (Some e) h)
 
     read_refuses : (d : Segment) (x : Option EndState) (b : Bool) → (if b then asked_for coming d t x (asking_judged t d) else heard_pair coming (pair_reached d) d t x).answer ≡ Refuses why
@@ -147,7 +147,7 @@ module _ (coming : Incoming) (s : StackState) (n : StackCounts) where
   unfolding call
   input_knocks q h = after_counts coming.now s (bytes_received coming (reading coming.bytes)) n ∙ came_knocks coming (clocked coming.now s).stack n q (reading coming.bytes) h
 
-  pub input_refuses : (why : Verdict) → (call (Input coming) s).answer ≡ Refuses why → call_counted (call (Input coming) s) n ≡ record n { node = refusal_counted why n.node }
+  pub input_refuses : (why : Refusal) → (call (Input coming) s).answer ≡ Refuses why → call_counted (call (Input coming) s) n ≡ record n { node = refusal_counted why n.node }
   unfolding call
   input_refuses why h = after_counts coming.now s (bytes_received coming (reading coming.bytes)) n ∙ came_refuses coming (clocked coming.now s).stack n why (reading coming.bytes) h
 

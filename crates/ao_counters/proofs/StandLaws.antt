@@ -9,7 +9,7 @@ use Rattle.book_keys.specs.declared.new_row.AddRefusal.TheVariants as refused
 use Rattle.book_keys.specs.declared.new_row.NewRow.{NewRow}
 use Rattle.book_endpoint.specs.declared.arrival.Arrival.TheVariants.{Bad}
 use Rattle.book_endpoint.specs.Emissions.{Emission}
-use Rattle.book_endpoint.specs.declared.verdict.Verdict.{Verdict}
+use Rattle.book_endpoint.specs.declared.refusal.Refusal.{Refusal}
 use Rattle.book_cmd_node.specs.declared.node.Act.{Act}
 use Rattle.book_cmd_node.specs.declared.node.Act.TheVariants as act
 use Rattle.book_cmd_node.specs.declared.node.NodeEvent.TheVariants as event
@@ -178,7 +178,7 @@ module _ (k after : CountedStack) (s : StackState) (n : StackCounts) (S : Stands
       → Follows after (Input coming) s n (IsHeard (reading coming.bytes) (heard.Knocks p))
   knocks_so coming p F node tallies = counts_as (Input coming) (IsHeard (reading coming.bytes) (heard.Knocks p)) _ (input_knocks coming s n p F.answer) F.answer (node_counts (call (Input coming) s).stack knock_counted F.stands node tallies)
 
-  pub refuses_so : (coming : Incoming) (why : Verdict) → below.Follows after.stack (Input coming) s (IsHeard (reading coming.bytes) (heard.Refused why)) → after.node ≡ refusal_counted why k.node → after.tallies ≡ k.tallies
+  pub refuses_so : (coming : Incoming) (why : Refusal) → below.Follows after.stack (Input coming) s (IsHeard (reading coming.bytes) (heard.Refused why)) → after.node ≡ refusal_counted why k.node → after.tallies ≡ k.tallies
       → Follows after (Input coming) s n (IsHeard (reading coming.bytes) (heard.Refused why))
   refuses_so coming why F node tallies = counts_as (Input coming) (IsHeard (reading coming.bytes) (heard.Refused why)) _ (input_refuses coming s n why F.answer) F.answer (node_counts (call (Input coming) s).stack (refusal_counted why) F.stands node tallies)
 

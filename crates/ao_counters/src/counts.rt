@@ -7,7 +7,7 @@ ghost use Rattle.ao_stack.specs.Turns.{act_of};
 
 use crate::key_ids;
 use book_counters::{Counters, KeyIds, KeyIdsSeen, Tally};
-use book_endpoint::{Arrival, Verdict};
+use book_endpoint::{Arrival, Refusal};
 use book_link::Transmission;
 
 /// What happened at a connection.
@@ -68,44 +68,43 @@ fn one_more(count: u64) -> u64
 }
 
 /// One segment more was refused by the check, for this reason.
-pub(crate) fn refused(counters: Counters, why: Verdict) -> Counters
+pub(crate) fn refused(counters: Counters, why: Refusal) -> Counters
     ensures { result ≡ refusal_counted why counters }
 {
     match why {
-        Verdict::Pass(_) => counters,
-        Verdict::NoAo => Counters {
+        Refusal::NoAo => Counters {
             no_ao: one_more(counters.no_ao),
             ..counters
         },
-        Verdict::TwoAo => Counters {
+        Refusal::TwoAo => Counters {
             two_ao: one_more(counters.two_ao),
             ..counters
         },
-        Verdict::WithMd5 => Counters {
+        Refusal::WithMd5 => Counters {
             with_md5: one_more(counters.with_md5),
             ..counters
         },
-        Verdict::NoTuple => Counters {
+        Refusal::NoTuple => Counters {
             no_tuple: one_more(counters.no_tuple),
             ..counters
         },
-        Verdict::Expired => Counters {
+        Refusal::Expired => Counters {
             expired: one_more(counters.expired),
             ..counters
         },
-        Verdict::MacLength => Counters {
+        Refusal::MacLength => Counters {
             mac_length: one_more(counters.mac_length),
             ..counters
         },
-        Verdict::NoContext => Counters {
+        Refusal::NoContext => Counters {
             no_context: one_more(counters.no_context),
             ..counters
         },
-        Verdict::Range => Counters {
+        Refusal::Range => Counters {
             range: one_more(counters.range),
             ..counters
         },
-        Verdict::BadMac => Counters {
+        Refusal::BadMac => Counters {
             bad_mac: one_more(counters.bad_mac),
             ..counters
         },

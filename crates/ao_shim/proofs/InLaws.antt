@@ -6,8 +6,8 @@ use Rattle.book_segments.specs.Sockets.{same_socket}
 use Rattle.book_segments.specs.Segments.{Segment, Bad as Unread, Read, reading, has, good, SYN, ACK, RST}
 use Rattle.book_keys.specs.Rows.{Row}
 use Rattle.book_keys.specs.Coordination.{follow}
-use Rattle.book_endpoint.specs.declared.verdict.Verdict.{Verdict}
-use Rattle.book_endpoint.specs.declared.verdict.Verdict.TheVariants.{NoContext}
+use Rattle.book_endpoint.specs.declared.refusal.Refusal.{Refusal}
+use Rattle.book_endpoint.specs.declared.refusal.Refusal.TheVariants.{NoContext}
 use Rattle.book_endpoint.specs.Verdicts.{Finding, judge}
 use Rattle.book_shim.specs.declared.kept.Kept.{Kept}
 use Rattle.book_shim.specs.declared.refusal.Untaken.TheVariants.{Bad, Foreign, Unkeyed, Checksum, Refused}
@@ -35,7 +35,7 @@ pub wrong_sum : (here : Setting) (pair : Pair) (g : Kept) (d : Segment) → is_k
 unfolding take_in
 wrong_sum here pair g d h e = rw (h, e) refl
 
-pub refused_as : (here : Setting) (pair : Pair) (g : Kept) (d : Segment) (v : Verdict) → is_keyed here.rows pair ≡ true → good d ≡ true → judged_arrival here pair g d ≡ Err v → take_in here pair g d ≡ Err (Refused v)
+pub refused_as : (here : Setting) (pair : Pair) (g : Kept) (d : Segment) (v : Refusal) → is_keyed here.rows pair ≡ true → good d ≡ true → judged_arrival here pair g d ≡ Err v → take_in here pair g d ≡ Err (Refused v)
 unfolding take_in
 refused_as here pair g d v h e j = rw (h, e, j) refl
 

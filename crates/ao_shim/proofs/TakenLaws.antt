@@ -5,14 +5,14 @@ use Rattle.book_segments.specs.Options.{Ao, One, find_ao}
 use Rattle.book_segments.specs.Segments.{IpHeader, Ipv4, Ipv6, Segment, segment_length}
 use Rattle.book_segments.specs.Spelling.{FitsIp, Fits}
 use Rattle.book_keys.specs.Rows.{Row}
-use Rattle.book_endpoint.specs.declared.verdict.Verdict.{Verdict}
-use Rattle.book_endpoint.specs.declared.verdict.Verdict.TheVariants.{Pass, NoAo, TwoAo, WithMd5, NoTuple, Expired, MacLength, NoContext, Range, BadMac}
+use Rattle.book_endpoint.specs.declared.refusal.Refusal.{Refusal}
+use Rattle.book_endpoint.specs.declared.refusal.Refusal.TheVariants.{NoAo, TwoAo, WithMd5, NoTuple, Expired, MacLength, NoContext, Range, BadMac}
 use Rattle.book_endpoint.specs.Verdicts.{Finding, Judgement}
 use Rattle.book_shim.specs.declared.kept.Kept.{Kept}
 use Rattle.book_shim.specs.Relaying.{with_area, length_in_header, coming, coming_area}
 use Rattle.book_shim.specs.Arriving.{admitted, past_heard, handed_on}
 use Rattle.ao_check.specs.declared.passing.Passing.{Passing}
-use Rattle.ao_check.specs.Verdicts.{Tells, IsRefusal}
+use Rattle.ao_check.specs.Verdicts.{Tells}
 use Rattle.tcp_options.specs.Views.{view_ao}
 use Rattle.ao_shim.specs.Arrivals.{row_heard}
 use Rattle.ao_shim.proofs.InLaws.{row_is}
@@ -29,7 +29,7 @@ pub record IsPassed (d : Segment) (x : Passing) (j : Judgement) : Type 0 where
 one_is : (a b : Ao) → One a ≡ One b → a ≡ b
 one_is a b e = cc
 
-pub passed : (rows : List Row) (pair : Pair) (d : Segment) (x : Passing) (j : Judgement) → Tells rows pair d (Pass x.passed) j → find_ao d.area ≡ One (view_ao x.option) → IsPassed d x j
+pub passed : (rows : List Row) (pair : Pair) (d : Segment) (x : Passing) (j : Judgement) → Tells rows pair d (Ok x.passed) j → find_ao d.area ≡ One (view_ao x.option) → IsPassed d x j
 passed rows pair d x j t found =
     let names = t.2 in
     let same : names.ao ≡ view_ao x.option = one_is names.ao (view_ao x.option) (sym names.found ∙ found) in
@@ -55,17 +55,3 @@ coming_less most d f = rewritten_long (coming most) d.area (coming_shortens most
 pub less_told : (i : IpHeader) (d : Segment) (area : List ℕ) → FitsIp i d → length area ≤ length d.area → length_in_header i (with_area d area) ≤ 65535
 less_told (Ipv4 service identification flags ttl checksum options) d area f h = let t = f.total in omega arith
 less_told (Ipv6 class_flow hops) d area f h = let t = f.total in omega arith
-
--- ---- a refusal
-
-pub refusal_is : (rows : List Row) (pair : Pair) (d : Segment) (v : Verdict) (j : Judgement) → IsRefusal v → Tells rows pair d v j → j ≡ Err v
-refusal_is rows pair d (Pass p) j r t = absurd r
-refusal_is rows pair d NoAo j r t = t
-refusal_is rows pair d TwoAo j r t = t
-refusal_is rows pair d WithMd5 j r t = t
-refusal_is rows pair d NoTuple j r t = t
-refusal_is rows pair d Expired j r t = t
-refusal_is rows pair d MacLength j r t = t
-refusal_is rows pair d NoContext j r t = t
-refusal_is rows pair d Range j r t = t
-refusal_is rows pair d BadMac j r t = t

@@ -6,7 +6,7 @@ ghost use Rattle.book_shim.specs.Arriving.{judged_arrival, past_heard, admitted}
 ghost use Rattle.book_shim.specs.Relaying as relaying;
 ghost use Rattle.ao_kdf.specs.declared.way.Way.TheVariants.{Inbound};
 ghost use Rattle.ao_check.specs.Bonds.{Counted};
-ghost use Rattle.ao_check.specs.Verdicts.{IsRefusal, Tells, judging, verdict_of};
+ghost use Rattle.ao_check.specs.Verdicts.{Tells, judging, verdict_of};
 ghost use Rattle.tcp_options.specs.Views.{view_ao};
 ghost use Rattle.ao_shim.specs.Guards.{Suits};
 ghost use Rattle.ao_shim.specs.Arrivals.{row_heard};
@@ -19,7 +19,7 @@ use ao_base::Steps;
 use ao_check::{Passing, check_syn, check_under};
 use ao_kdf::KeyCache;
 use book_base::Pair;
-use book_endpoint::Verdict;
+use book_endpoint::Refusal;
 use book_shim::Kept;
 use key_table::Table;
 use std::sync::ledger::Ledger;
@@ -33,19 +33,18 @@ fn judged_syn<'a, L: Ledger>(
     now: u64,
     datagram: &Datagram<'a>,
     steps: &mut Steps<L>,
-) -> Result<Passing<'a>, Verdict>
+) -> Result<Passing<'a>, Refusal>
     requires syn { has SYN datagram.now ≡ true }
     requires source { datagram.now.source ≡ pair.now.remote }
     requires destination { datagram.now.destination ≡ pair.now.local }
     ensures verdict { (mtu : ℕ) → Tells table.now.rows pair.now datagram.now (verdict_of result)
         (judged_arrival (record { rows = table.now.rows; now = now; mtu = mtu }) pair.now kept.now datagram.now) }
     ensures option { IfOk result (λ p. find_ao datagram.now.area ≡ One (view_ao p.option)) }
-    ensures refusal { IfErr result (λ v. IsRefusal v) }
     ensures most { steps.new ≤ steps.old + 1 }
 {
     if datagram.has(Flag::Ack) {
         if !is_awaited(kept, datagram) {
-            return Err(Verdict::NoContext);
+            return Err(Refusal::NoContext);
         }
     }
     check_syn(pair, answered_isn(datagram), table, now, datagram, steps)
@@ -60,7 +59,7 @@ fn judged_later<'a, L: Ledger>(
     now: u64,
     datagram: &Datagram<'a>,
     steps: &mut Steps<L>,
-) -> Result<Passing<'a>, Verdict>
+) -> Result<Passing<'a>, Refusal>
     requires suits { Suits table.now.rows (record { pair = pair.now; kept = kept.now; keys = keys.old }) }
     requires heard { kept.now.heard ≤ 2 ^ 63 }
     requires syn { has SYN datagram.now ≡ false }
@@ -69,7 +68,6 @@ fn judged_later<'a, L: Ledger>(
     ensures verdict { (mtu : ℕ) → Tells table.now.rows pair.now datagram.now (verdict_of result)
         (judged_arrival (record { rows = table.now.rows; now = now; mtu = mtu }) pair.now kept.now datagram.now) }
     ensures option { IfOk result (λ p. find_ao datagram.now.area ≡ One (view_ao p.option)) }
-    ensures refusal { IfErr result (λ v. IsRefusal v) }
     ensures suits { Suits table.now.rows (record { pair = pair.now; kept = kept.now; keys = keys.new }) }
     ensures rows { keys.new.rows ≡ keys.old.rows }
     ensures counted { (b : Bool)
@@ -101,7 +99,7 @@ pub(crate) fn judged<'a, L: Ledger>(
     now: u64,
     datagram: &Datagram<'a>,
     steps: &mut Steps<L>,
-) -> Result<Passing<'a>, Verdict>
+) -> Result<Passing<'a>, Refusal>
     requires suits { Suits table.now.rows (record { pair = pair.now; kept = kept.now; keys = keys.old }) }
     requires heard { kept.now.heard ≤ 2 ^ 63 }
     requires source { datagram.now.source ≡ pair.now.remote }
@@ -109,7 +107,6 @@ pub(crate) fn judged<'a, L: Ledger>(
     ensures verdict { (mtu : ℕ) → Tells table.now.rows pair.now datagram.now (verdict_of result)
         (judged_arrival (record { rows = table.now.rows; now = now; mtu = mtu }) pair.now kept.now datagram.now) }
     ensures option { IfOk result (λ p. find_ao datagram.now.area ≡ One (view_ao p.option)) }
-    ensures refusal { IfErr result (λ v. IsRefusal v) }
     ensures suits { Suits table.now.rows (record { pair = pair.now; kept = kept.now; keys = keys.new }) }
     ensures rows { keys.new.rows ≡ keys.old.rows }
     ensures most { steps.new ≤ steps.old + 1 }

@@ -7,7 +7,7 @@ use Rattle.book_segments.specs.Segments.{Segment, Reading, Read, Bad as Unread, 
 use Rattle.book_endpoint.specs.declared.arrival.Arrival.{Arrival}
 use Rattle.book_endpoint.specs.Arrivals.{arrive, syn_alone}
 use Rattle.book_endpoint.specs.Verdicts.{Finding, Judgement}
-use Rattle.book_endpoint.specs.declared.verdict.Verdict.{Verdict}
+use Rattle.book_endpoint.specs.declared.refusal.Refusal.{Refusal}
 use Rattle.book_endpoint.specs.States.{EndState}
 use Rattle.book_cmd_node.specs.NodeRuns.{DatagramAnswered, called, held_end}
 use Rattle.book_segments.specs.Segments.{pair_reached}
@@ -159,12 +159,12 @@ pub knocked : (k : Stack) (coming : Incoming) (p : Pair) (d : Segment) (s : Stac
 knocked k coming p d s f S q = record { stands = S; answer = ap book.Knocks (sym q) }
 
 -- it was refused where no connection is held
-pub refused_alone : (k : Stack) (coming : Incoming) (d : Segment) (s : StackState) (why : Verdict) (o : Option EndState) → Stands k s → None ≡ option_map end_front o → Does k (IsHeard (Read d) (heards.Refused why)) (asked_for coming d s o (Err why))
+pub refused_alone : (k : Stack) (coming : Incoming) (d : Segment) (s : StackState) (why : Refusal) (o : Option EndState) → Stands k s → None ≡ option_map end_front o → Does k (IsHeard (Read d) (heards.Refused why)) (asked_for coming d s o (Err why))
 refused_alone k coming d s why None S h = record { stands = S; answer = refl }
 refused_alone k coming d s why (Some e) S h = absurd (cc)
 
 -- or its end answers it
-pub refused_held : (k : Stack) (coming : Incoming) (d : Segment) (s : StackState) (why : Verdict) (told : Heard) (f : Front) (o : Option EndState) → Some f ≡ option_map end_front o
+pub refused_held : (k : Stack) (coming : Incoming) (d : Segment) (s : StackState) (why : Refusal) (told : Heard) (f : Front) (o : Option EndState) → Some f ≡ option_map end_front o
     → Does k (IsHeard (Read d) told) (heard_pair coming (pair_reached d) d s o) → Does k (IsHeard (Read d) told) (asked_for coming d s o (Err why))
 refused_held k coming d s why told f None h D = absurd (cc)
 refused_held k coming d s why told f (Some e) h D = D

@@ -22,7 +22,7 @@ ghost use Rattle.ao_stack.specs.Stands.{Stands};
 use crate::stack::Stack;
 use ao_base::Steps;
 use book_base::Pair;
-use book_endpoint::{Arrival, Phase, Verdict};
+use book_endpoint::{Arrival, Phase, Refusal};
 use book_stack::{Change, Front};
 use node_ends::NodeArrival;
 use stack_timers::{is_heard, moves_on};
@@ -43,7 +43,7 @@ pub enum Heard<'a> {
     /// hands the datagram in again. One of an earlier connection passes too, whoever sends it again.
     Knocks(Pair),
     /// A SYN for a pair that isn't held, and that the check refuses. Nothing was heard.
-    Refused(Verdict),
+    Refused(Refusal),
 }
 
 /// SYN without ACK, RST and FIN, and the checksum is right.
@@ -181,7 +181,7 @@ impl Stack {
     /// that end answers it.
     fn refuse<'a, L: Ledger>(
         &mut self,
-        why: Verdict,
+        why: Refusal,
         front: Option<Front>,
         pair: &Pair,
         now: u64,
@@ -212,7 +212,7 @@ impl Stack {
         pair: &Pair,
         datagram: &Datagram<'_>,
         steps: &mut Steps<L>,
-    ) -> Result<(), Verdict>
+    ) -> Result<(), Refusal>
         requires syn { has SYN datagram.now ≡ true }
         requires reached { pair.now ≡ pair_reached datagram.now }
         ensures judged { (s : StackState) → Stands self.now s → IsJudged result (asking_judged s datagram.now) }

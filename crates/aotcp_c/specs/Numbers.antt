@@ -4,8 +4,8 @@ use Rattle.book_endpoint.specs.declared.phase.Phase.{Phase}
 use Rattle.book_endpoint.specs.declared.phase.Phase.TheVariants as phases
 use Rattle.book_endpoint.specs.declared.arrival.Arrival.{Arrival}
 use Rattle.book_endpoint.specs.declared.arrival.Arrival.TheVariants as arrivals
-use Rattle.book_endpoint.specs.declared.verdict.Verdict.{Verdict}
-use Rattle.book_endpoint.specs.declared.verdict.Verdict.TheVariants as verdicts
+use Rattle.book_endpoint.specs.declared.refusal.Refusal.{Refusal}
+use Rattle.book_endpoint.specs.declared.refusal.Refusal.TheVariants as refusals
 use Rattle.book_segments.specs.declared.fault.DatagramFault.{DatagramFault}
 use Rattle.book_segments.specs.declared.fault.DatagramFault.TheVariants as datagrams
 use Rattle.book_keys.specs.declared.fault.Column.{Column}
@@ -62,17 +62,16 @@ datagram_number datagrams.DataOffset = 8
 datagram_number (datagrams.BadOption _) = 9
 
 -- what the check found, 0 for a pass (own)
-abbrev pub verdict_number : Verdict → ℕ
-verdict_number (verdicts.Pass _) = 0
-verdict_number verdicts.NoAo = 1
-verdict_number verdicts.TwoAo = 2
-verdict_number verdicts.WithMd5 = 3
-verdict_number verdicts.NoTuple = 4
-verdict_number verdicts.Expired = 5
-verdict_number verdicts.MacLength = 6
-verdict_number verdicts.NoContext = 7
-verdict_number verdicts.Range = 8
-verdict_number verdicts.BadMac = 9
+abbrev pub verdict_number : Refusal → ℕ
+verdict_number refusals.NoAo = 1
+verdict_number refusals.TwoAo = 2
+verdict_number refusals.WithMd5 = 3
+verdict_number refusals.NoTuple = 4
+verdict_number refusals.Expired = 5
+verdict_number refusals.MacLength = 6
+verdict_number refusals.NoContext = 7
+verdict_number refusals.Range = 8
+verdict_number refusals.BadMac = 9
 
 -- the answers to an arrival (own)
 abbrev pub arrival_number : Arrival → ℕ

@@ -5,7 +5,7 @@ use Rattle.book_base.specs.declared.address.Address.TheVariants.{V4, V6}
 use Rattle.book_base.specs.declared.address.Pair.{Pair}
 use Rattle.book_keys.specs.declared.fault.TableFault.{TableFault}
 use Rattle.book_keys.specs.declared.fault.TableFault.TheVariants as fault
-use Rattle.book_endpoint.specs.declared.verdict.Passed.{Passed}
+use Rattle.book_endpoint.specs.declared.passed.Passed.{Passed}
 use Rattle.book_stack.specs.declared.front.Front.{Front}
 use Rattle.tcp_endpoint.specs.Arrivals.{passed_of}
 use Rattle.node_ends.specs.declared.answer.NodeArrival.{NodeArrival}

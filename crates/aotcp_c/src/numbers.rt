@@ -3,7 +3,7 @@ ghost use Rattle.std.specs.Prelude.{◌≡◌};
 ghost use Rattle.aotcp_c.specs.Numbers.{phase_number, column_number, datagram_number, verdict_number};
 ghost use Rattle.aotcp_c.specs.Numbers.{arrival_number, reason_number};
 
-use book_endpoint::{Arrival, Phase, Verdict};
+use book_endpoint::{Arrival, Phase, Refusal};
 use book_keys::Column;
 use book_segments::DatagramFault;
 
@@ -73,20 +73,19 @@ pub(crate) fn datagram_number(fault: DatagramFault) -> u8
 }
 
 /// What the check found.
-pub(crate) fn verdict_number(verdict: Verdict) -> u8
+pub(crate) fn verdict_number(verdict: Refusal) -> u8
     ensures { result ≡ verdict_number verdict }
 {
     match verdict {
-        Verdict::Pass(_) => 0,
-        Verdict::NoAo => 1,
-        Verdict::TwoAo => 2,
-        Verdict::WithMd5 => 3,
-        Verdict::NoTuple => 4,
-        Verdict::Expired => 5,
-        Verdict::MacLength => 6,
-        Verdict::NoContext => 7,
-        Verdict::Range => 8,
-        Verdict::BadMac => 9,
+        Refusal::NoAo => 1,
+        Refusal::TwoAo => 2,
+        Refusal::WithMd5 => 3,
+        Refusal::NoTuple => 4,
+        Refusal::Expired => 5,
+        Refusal::MacLength => 6,
+        Refusal::NoContext => 7,
+        Refusal::Range => 8,
+        Refusal::BadMac => 9,
     }
 }
 

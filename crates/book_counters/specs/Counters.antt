@@ -6,8 +6,8 @@ use Rattle.book_base.specs.declared.address.Pair.{Pair}
 use Rattle.book_segments.specs.Segments.{Reading, Read, Bad as Unread, pair_reached, reading}
 use Rattle.book_endpoint.specs.declared.arrival.Arrival.{Arrival}
 use Rattle.book_endpoint.specs.declared.arrival.Arrival.TheVariants as arrival
-use Rattle.book_endpoint.specs.declared.verdict.Verdict.{Verdict}
-use Rattle.book_endpoint.specs.declared.verdict.Verdict.TheVariants as verdict
+use Rattle.book_endpoint.specs.declared.refusal.Refusal.{Refusal}
+use Rattle.book_endpoint.specs.declared.refusal.Refusal.TheVariants as refusal
 use Rattle.book_cmd_node.specs.declared.node.Act.{Act}
 use Rattle.book_cmd_node.specs.declared.node.Act.TheVariants as act
 use Rattle.book_cmd_node.specs.declared.node.NodeEvent.{NodeEvent}
@@ -50,17 +50,16 @@ no_counters = record {
 }
 
 -- one segment more was refused by the check, for this reason; a pass is none (own)
-abbrev pub refusal_counted : Verdict → Counters → Counters
-refusal_counted (verdict.Pass passed) k = k
-refusal_counted verdict.NoAo k = record k { no_ao = next_count k.no_ao }
-refusal_counted verdict.TwoAo k = record k { two_ao = next_count k.two_ao }
-refusal_counted verdict.WithMd5 k = record k { with_md5 = next_count k.with_md5 }
-refusal_counted verdict.NoTuple k = record k { no_tuple = next_count k.no_tuple }
-refusal_counted verdict.Expired k = record k { expired = next_count k.expired }
-refusal_counted verdict.MacLength k = record k { mac_length = next_count k.mac_length }
-refusal_counted verdict.NoContext k = record k { no_context = next_count k.no_context }
-refusal_counted verdict.Range k = record k { range = next_count k.range }
-refusal_counted verdict.BadMac k = record k { bad_mac = next_count k.bad_mac }
+abbrev pub refusal_counted : Refusal → Counters → Counters
+refusal_counted refusal.NoAo k = record k { no_ao = next_count k.no_ao }
+refusal_counted refusal.TwoAo k = record k { two_ao = next_count k.two_ao }
+refusal_counted refusal.WithMd5 k = record k { with_md5 = next_count k.with_md5 }
+refusal_counted refusal.NoTuple k = record k { no_tuple = next_count k.no_tuple }
+refusal_counted refusal.Expired k = record k { expired = next_count k.expired }
+refusal_counted refusal.MacLength k = record k { mac_length = next_count k.mac_length }
+refusal_counted refusal.NoContext k = record k { no_context = next_count k.no_context }
+refusal_counted refusal.Range k = record k { range = next_count k.range }
+refusal_counted refusal.BadMac k = record k { bad_mac = next_count k.bad_mac }
 
 -- one datagram more was answered so; what the check didn't refuse passed it (own)
 abbrev pub arrival_counted : Arrival → Counters → Counters

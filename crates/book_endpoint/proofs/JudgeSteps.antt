@@ -11,7 +11,7 @@ use Rattle.book_segments.specs.Segments.{Segment, has, SYN, segment_length}
 use Rattle.book_macs.specs.Contexts.{context_of}
 use Rattle.book_keys.specs.Rows.{Row}
 use Rattle.book_keys.specs.Choices.{Numbered, accept_row, has_id}
-use Rattle.book_endpoint.specs.declared.verdict.Verdict.TheVariants.{NoAo, TwoAo, WithMd5, NoTuple, Expired, MacLength, NoContext, Range, BadMac}
+use Rattle.book_endpoint.specs.declared.refusal.Refusal.TheVariants.{NoAo, TwoAo, WithMd5, NoTuple, Expired, MacLength, NoContext, Range, BadMac}
 use Rattle.book_endpoint.specs.States.{number_limit}
 use Rattle.book_endpoint.specs.Verdicts.{Finding, Judgement, Known, mac_of, found_with, segment_number, one_ao, row_taking, require, judge}
 

@@ -12,7 +12,7 @@ use Rattle.book_macs.specs.Contexts.{context_of}
 use Rattle.book_keys.specs.Rows.{Row}
 use Rattle.book_keys.specs.Choices.{Numbered, lowest, accept_row, acceptable_as, has_id, IsLowest}
 use Rattle.book_keys.proofs.ChoiceLaws.{lowest-IsLowest, lowest-none}
-use Rattle.book_endpoint.specs.declared.verdict.Verdict.TheVariants.{NoTuple, Expired, MacLength, NoContext, Range, BadMac}
+use Rattle.book_endpoint.specs.declared.refusal.Refusal.TheVariants.{NoTuple, Expired, MacLength, NoContext, Range, BadMac}
 use Rattle.book_endpoint.specs.Verdicts.{Finding, Judgement, Known, mac_of, found_with, segment_number, judge}
 use Rattle.book_endpoint.proofs.JudgeSteps.{judge_mac, judge_number, judge_context, judge_row, judge_ao, judge_by_steps}
 use Rattle.book_endpoint.specs.Passing.{options_in, HasNumber, Passes}

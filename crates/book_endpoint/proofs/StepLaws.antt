@@ -8,7 +8,7 @@ use Rattle.book_endpoint.specs.declared.arrival.Arrival.{Arrival}
 use Rattle.book_endpoint.specs.declared.arrival.Arrival.TheVariants.{Foreign, Checksum, Closed as AtClosed, Reset, Challenge, Window, Unexpected}
 use Rattle.book_endpoint.specs.declared.phase.Phase.{Phase}
 use Rattle.book_endpoint.specs.declared.phase.Phase.TheVariants.{Listen, SynSent, SynReceived, Established, FinWait1, FinWait2, CloseWait, Closing, LastAck, TimeWait, Closed}
-use Rattle.book_endpoint.specs.declared.verdict.Verdict.{Verdict}
+use Rattle.book_endpoint.specs.declared.refusal.Refusal.{Refusal}
 use Rattle.book_endpoint.specs.Verdicts.{Finding, Judgement}
 use Rattle.book_endpoint.specs.States.{EndState, is_closed}
 use Rattle.book_endpoint.specs.Hearing.{Moved, answered, owing}
@@ -24,11 +24,11 @@ past_tests P false false false s last un h = h
 
 -- ---- what is refused
 
-judged_stays : (s : EndState) (onward : Finding → Moved) (j : Judgement) (why : Verdict) → j ≡ Err why → (checked s onward j).state ≡ s
+judged_stays : (s : EndState) (onward : Finding → Moved) (j : Judgement) (why : Refusal) → j ≡ Err why → (checked s onward j).state ≡ s
 judged_stays s onward (Err why) other e = refl
 judged_stays s onward _ other e = absurd (cc)
 
-pub refused_stays : (rows : List Row) (pair : Pair) (now : ℕ) (s : EndState) (d : Segment) (why : Verdict) → judged_by rows pair now s d ≡ Err why
+pub refused_stays : (rows : List Row) (pair : Pair) (now : ℕ) (s : EndState) (d : Segment) (why : Refusal) → judged_by rows pair now s d ≡ Err why
     → (arrive rows pair now s (Read d)).state ≡ s
 unfolding arrive
 refused_stays rows pair now s d why e =

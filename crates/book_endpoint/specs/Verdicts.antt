@@ -17,10 +17,10 @@ use Rattle.book_base.specs.Algorithms.{same_algorithm}
 use Rattle.book_keys.specs.Rows.{Row}
 use Rattle.book_keys.specs.Choices.{Numbered, accept_row, has_id}
 use Rattle.book_endpoint.specs.States.{number_limit}
-use Rattle.book_endpoint.specs.declared.verdict.Verdict.{Verdict}
-use Rattle.book_endpoint.specs.declared.verdict.Verdict.TheVariants.{NoAo, TwoAo, WithMd5, NoTuple}
-use Rattle.book_endpoint.specs.declared.verdict.Verdict.TheVariants.{Expired, MacLength, NoContext}
-use Rattle.book_endpoint.specs.declared.verdict.Verdict.TheVariants.{Range, BadMac}
+use Rattle.book_endpoint.specs.declared.refusal.Refusal.{Refusal}
+use Rattle.book_endpoint.specs.declared.refusal.Refusal.TheVariants.{NoAo, TwoAo, WithMd5, NoTuple}
+use Rattle.book_endpoint.specs.declared.refusal.Refusal.TheVariants.{Expired, MacLength, NoContext}
+use Rattle.book_endpoint.specs.declared.refusal.Refusal.TheVariants.{Range, BadMac}
 
 -- An algorithm with a master key (RFC 5925, section 3.1).
 pub record Key : Type 0 where
@@ -48,7 +48,7 @@ pub record Finding : Type 0 where
 -- The verdict on a segment: it passes with what was found of it, or it is refused for this reason
 -- (RFC 5925, section 7.5).
 abbrev pub Judgement : Type 0
-Judgement = Result Finding Verdict
+Judgement = Result Finding Refusal
 
 -- What an end knows of the numbers of its connection, as far as it is known (RFC 5925, sections 5.2
 -- and 6.2).
@@ -73,7 +73,7 @@ found_with r d ao context n = record {
 }
 
 -- The one TCP-AO option of a segment, without TCP MD5 beside it (RFC 5925, section 2.2).
-abbrev pub one_ao : AoFound → Result Ao Verdict
+abbrev pub one_ao : AoFound → Result Ao Refusal
 one_ao Absent = Err NoAo
 one_ao Two = Err TwoAo
 one_ao FoundMd5 = Err WithMd5
@@ -81,13 +81,13 @@ one_ao (One ao) = Ok ao
 
 -- The row that takes segments with this KeyID now; where none does now, whether one does at some
 -- time (RFC 5925, section 7.5).
-abbrev pub row_taking : List Row → Pair → (key_id now : ℕ) → Result Numbered Verdict
+abbrev pub row_taking : List Row → Pair → (key_id now : ℕ) → Result Numbered Refusal
 row_taking rows pair key_id now =
     or_fault (accept_row rows pair key_id now)
     (if has_id rows pair key_id then Expired else NoTuple)
 
 -- What is required holds, or this is the refusal (own).
-abbrev pub require : Bool → Verdict → Result (Unit {0}) Verdict
+abbrev pub require : Bool → Refusal → Result (Unit {0}) Refusal
 require true why = Ok tt
 require false why = Err why
 

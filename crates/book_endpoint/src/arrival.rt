@@ -1,6 +1,6 @@
 //! What an end answers to an arrival.
 
-use crate::verdict::Verdict;
+use crate::refusal::Refusal;
 use book_segments::DatagramFault;
 
 /// The answer to an arrival: the first of these that holds (RFC 9293, section 3.10.7, in a profile).
@@ -15,7 +15,7 @@ pub enum Arrival {
     /// The end is closed.
     Closed,
     /// The check refuses it, for this reason.
-    Refused(Verdict),
+    Refused(Refusal),
     /// It isn't what the handshake waits for.
     Unexpected,
     /// It isn't acceptable at the number expected.

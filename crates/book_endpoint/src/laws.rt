@@ -6,7 +6,7 @@ ghost use Rattle.book_segments.specs.Received.{runs};
 ghost use Rattle.book_segments.specs.Segments.{Segment, Read, has, RST};
 ghost use Rattle.book_keys.specs.Rows.{Row};
 ghost use Rattle.book_endpoint.specs.declared.phase.Phase.TheVariants.{SynReceived, CloseWait, Closed};
-ghost use Rattle.book_endpoint.specs.declared.verdict.Verdict.{Verdict};
+ghost use Rattle.book_endpoint.specs.declared.refusal.Refusal.{Refusal};
 ghost use Rattle.book_endpoint.specs.Verdicts.{Finding, Known, judge};
 ghost use Rattle.book_endpoint.specs.Passing.{Passes};
 ghost use Rattle.book_endpoint.specs.States.{EndState, abort, hears, window};
@@ -24,7 +24,7 @@ pub fn passes_exactly()
 /// A segment that the check refuses changes nothing: its RNextKeyID isn't heard, and no byte,
 /// acknowledgement or window of it is taken (RFC 5925, section 7.5).
 pub fn refused_changes_nothing()
-    ensures { (rows : List Row) (pair : Pair) (now : ℕ) (s : EndState) (d : Segment) (why : Verdict)
+    ensures { (rows : List Row) (pair : Pair) (now : ℕ) (s : EndState) (d : Segment) (why : Refusal)
         → judged_by rows pair now s d ≡ Err why
         → (arrive rows pair now s (Read d)).state ≡ s }
 {}

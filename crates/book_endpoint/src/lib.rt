@@ -5,13 +5,15 @@
 
 mod arrival;
 mod laws;
+mod passed;
 mod phase;
-mod verdict;
+mod refusal;
 
 pub use arrival::Arrival;
 pub use laws::{
     abort_closes, fin_is_past_all_kept_bytes, old_acknowledgement_tells_nothing, passes_exactly,
     refused_changes_nothing, reset_hears_no_key, reset_is_at_the_expected_number,
 };
+pub use passed::Passed;
 pub use phase::Phase;
-pub use verdict::{Passed, Verdict};
+pub use refusal::Refusal;

@@ -18,10 +18,10 @@ use Rattle.book_endpoint.specs.declared.phase.Phase.TheVariants.{Listen, SynSent
 use Rattle.book_endpoint.specs.declared.phase.Phase.TheVariants.{Established, FinWait1, FinWait2}
 use Rattle.book_endpoint.specs.declared.phase.Phase.TheVariants.{CloseWait, Closing, LastAck}
 use Rattle.book_endpoint.specs.declared.phase.Phase.TheVariants.{TimeWait, Closed}
-use Rattle.book_endpoint.specs.declared.verdict.Verdict.{Verdict}
-use Rattle.book_endpoint.specs.declared.verdict.Verdict.TheVariants.{Pass, NoAo, TwoAo, WithMd5}
-use Rattle.book_endpoint.specs.declared.verdict.Verdict.TheVariants.{NoTuple, Expired, MacLength}
-use Rattle.book_endpoint.specs.declared.verdict.Verdict.TheVariants.{NoContext, Range, BadMac}
+use Rattle.book_endpoint.specs.declared.refusal.Refusal.{Refusal}
+use Rattle.book_endpoint.specs.declared.refusal.Refusal.TheVariants.{NoAo, TwoAo, WithMd5}
+use Rattle.book_endpoint.specs.declared.refusal.Refusal.TheVariants.{NoTuple, Expired, MacLength}
+use Rattle.book_endpoint.specs.declared.refusal.Refusal.TheVariants.{NoContext, Range, BadMac}
 use Rattle.book_link.specs.declared.event.Event.{Event}
 use Rattle.book_link.specs.Outcomes.{Outcome, Done, Sent, Answered, Took, Image, Added, IsnUsed}
 use Rattle.book_link.specs.Outcomes.{NoSession, NoSegment, NoPlace, Full, HasClosed, WithoutKey}
@@ -30,8 +30,7 @@ use Rattle.book_link.specs.Worlds.{Setup, Session, Made, World, forgeries, segme
 use Rattle.book_link.specs.Runs.{empty, run, outcomes_from}
 
 -- the word for a verdict on a segment's TCP-AO option (own)
-abbrev pub verdict_text : Verdict → List ℕ
-verdict_text (Pass passed) = codes "pass"
+abbrev pub verdict_text : Refusal → List ℕ
 verdict_text NoAo = codes "no-ao"
 verdict_text TwoAo = codes "two-ao"
 verdict_text WithMd5 = codes "with-md5"

@@ -4,8 +4,8 @@ use Rattle.book_segments.specs.declared.fault.DatagramFault.{DatagramFault}
 use Rattle.book_segments.specs.Segments.{Segment, Reading, Read, Bad, reading}
 use Rattle.book_keys.specs.Rows.{Table}
 use Rattle.book_cmd_check.specs.Captures.{Stored, Connection, Heard, Saying, Unreadable, UnknownNode, Judged, TooManyConnections, hear, hear_read, sayings_from}
-use Rattle.book_endpoint.specs.declared.verdict.Verdict.{Verdict}
-use Rattle.book_endpoint.specs.declared.verdict.Verdict.TheVariants.{Pass, NoAo, TwoAo, WithMd5, NoTuple, Expired, MacLength, NoContext, Range, BadMac}
+use Rattle.book_endpoint.specs.declared.refusal.Refusal.{Refusal}
+use Rattle.book_endpoint.specs.declared.refusal.Refusal.TheVariants.{NoAo, TwoAo, WithMd5, NoTuple, Expired, MacLength, NoContext, Range, BadMac}
 use Rattle.book_cmd_check.specs.declared.given.GivenIsns.{GivenIsns}
 use Rattle.book_cmd_check.specs.Handshakes.{given_after}
 use Rattle.book_captures.specs.Captures.{CapturePacket}
@@ -195,7 +195,6 @@ told_kept o e true (Unreadable fault) = refl
 told_kept o e true UnknownNode = refl
 told_kept o e true (TooManyConnections checksum) = refl
 told_kept o e true (Judged (Ok p) checksum) = refl
-told_kept o e true (Judged (Err (Pass p)) checksum) = refl
 told_kept o e true (Judged (Err NoAo) checksum) = refl
 told_kept o e true (Judged (Err TwoAo) checksum) = refl
 told_kept o e true (Judged (Err WithMd5) checksum) = refl
@@ -240,8 +239,7 @@ unrefused_counted tables given packets o e =
 -- ---- what was cut off
 
 -- what is heard of a segment is another outcome
-refused_whole : (why : Verdict) → same_outcome outcome.CutOff (outcome.Refused why) ≡ false
-refused_whole (Pass p) = refl
+refused_whole : (why : Refusal) → same_outcome outcome.CutOff (outcome.Refused why) ≡ false
 refused_whole NoAo = refl
 refused_whole TwoAo = refl
 refused_whole WithMd5 = refl
@@ -267,7 +265,6 @@ twice_whole (Unreadable fault) = tt
 twice_whole UnknownNode = refl
 twice_whole (TooManyConnections checksum) = refl
 twice_whole (Judged (Ok p) checksum) = refl
-twice_whole (Judged (Err (Pass p)) checksum) = refl
 twice_whole (Judged (Err NoAo) checksum) = refl
 twice_whole (Judged (Err TwoAo) checksum) = refl
 twice_whole (Judged (Err WithMd5) checksum) = refl

@@ -7,7 +7,7 @@ use Rattle.std.proofs.lemmas.Slice.Eq.{bytes_eq-Decides}
 use Rattle.book_base.specs.declared.address.Socket.{Socket}
 use Rattle.book_segments.specs.Sockets.{same_address, same_socket}
 use Rattle.book_keys.proofs.OverlapLaws.{same_address-true}
-use Rattle.book_endpoint.specs.declared.verdict.Verdict.TheVariants.{Pass, NoAo, TwoAo, WithMd5, NoTuple, Expired, MacLength, NoContext, Range, BadMac}
+use Rattle.book_endpoint.specs.declared.refusal.Refusal.TheVariants.{NoAo, TwoAo, WithMd5, NoTuple, Expired, MacLength, NoContext, Range, BadMac}
 use Rattle.book_sessions.specs.declared.outcome.SegmentOutcome.{SegmentOutcome}
 use Rattle.book_sessions.specs.declared.outcome.SegmentOutcome.TheVariants as outcome
 use Rattle.book_sessions.specs.declared.uses.FlowIsns.{FlowIsns}
@@ -83,7 +83,6 @@ checked_word outcome.TooMany = refl
 checked_word outcome.CutOff = refl
 checked_word outcome.Unconfirmed = refl
 checked_word (outcome.UnconfirmedRefused why) = refl
-checked_word (outcome.Refused (Pass p)) = refl
 checked_word (outcome.Refused NoAo) = refl
 checked_word (outcome.Refused TwoAo) = refl
 checked_word (outcome.Refused WithMd5) = refl

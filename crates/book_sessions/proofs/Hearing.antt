@@ -7,7 +7,7 @@ use Rattle.book_segments.specs.Segments.{Segment, Reading, Read, Bad, reading, h
 use Rattle.book_segments.specs.Sockets.{same_socket}
 use Rattle.book_keys.specs.Rows.{Table, has_address}
 use Rattle.book_endpoint.specs.Verdicts.{Finding, Judgement}
-use Rattle.book_endpoint.specs.declared.verdict.Verdict.TheVariants.{Pass, NoAo, TwoAo, WithMd5, NoTuple, Expired, MacLength, NoContext, Range, BadMac}
+use Rattle.book_endpoint.specs.declared.refusal.Refusal.TheVariants.{NoAo, TwoAo, WithMd5, NoTuple, Expired, MacLength, NoContext, Range, BadMac}
 use Rattle.book_cmd_show.specs.DatagramTexts.{checksum_in}
 use Rattle.book_cmd_check.specs.Captures.{Stored, Connection, Heard, Saying, Unreadable, UnknownNode, Judged, TooManyConnections, connection_between, with_connection, fixed, most_connections, judge_stored, hear_later, hear_syn_ack, hear_judged, hear_at, hear_read}
 use Rattle.book_sessions.specs.declared.outcome.SegmentOutcome.{SegmentOutcome}
@@ -130,7 +130,6 @@ guess_checked (Unreadable fault) e = absurd (cc)
 guess_checked UnknownNode e = absurd (cc)
 guess_checked (TooManyConnections checksum) e = absurd (cc)
 guess_checked (Judged (Ok p) checksum) e = refl
-guess_checked (Judged (Err (Pass p)) checksum) e = refl
 guess_checked (Judged (Err NoAo) checksum) e = refl
 guess_checked (Judged (Err TwoAo) checksum) e = refl
 guess_checked (Judged (Err WithMd5) checksum) e = refl
@@ -146,7 +145,6 @@ unknown_outcome (Unreadable fault) e = absurd (cc)
 unknown_outcome UnknownNode e = absurd (cc)
 unknown_outcome (TooManyConnections checksum) e = absurd (cc)
 unknown_outcome (Judged (Ok p) checksum) e = absurd (cc)
-unknown_outcome (Judged (Err (Pass p)) checksum) e = absurd (cc)
 unknown_outcome (Judged (Err NoAo) checksum) e = absurd (cc)
 unknown_outcome (Judged (Err TwoAo) checksum) e = absurd (cc)
 unknown_outcome (Judged (Err WithMd5) checksum) e = absurd (cc)
@@ -176,7 +174,6 @@ told_as_is true (Unreadable fault) e = refl
 told_as_is true UnknownNode e = refl
 told_as_is true (TooManyConnections checksum) e = refl
 told_as_is true (Judged (Ok p) checksum) e = refl
-told_as_is true (Judged (Err (Pass p)) checksum) e = refl
 told_as_is true (Judged (Err NoAo) checksum) e = refl
 told_as_is true (Judged (Err TwoAo) checksum) e = refl
 told_as_is true (Judged (Err WithMd5) checksum) e = refl

@@ -5,7 +5,7 @@ use Rattle.std.specs.Option.{option_or, unwrap_or}
 use Rattle.book_segments.specs.Bytes.{ring}
 use Rattle.book_segments.specs.Segments.{Segment, Read}
 use Rattle.book_endpoint.specs.States.{number_limit}
-use Rattle.book_endpoint.specs.declared.verdict.Verdict.TheVariants.{Pass, NoAo, TwoAo, WithMd5, NoTuple, Expired, MacLength, NoContext, Range, BadMac}
+use Rattle.book_endpoint.specs.declared.refusal.Refusal.TheVariants.{NoAo, TwoAo, WithMd5, NoTuple, Expired, MacLength, NoContext, Range, BadMac}
 use Rattle.book_cmd_check.specs.Captures.{Connection, Heard, Saying, Unreadable, UnknownNode, Judged, TooManyConnections, connection_between, is_pass}
 use Rattle.book_sessions.specs.declared.outcome.SegmentOutcome.TheVariants as outcome
 use Rattle.book_sessions.specs.Glimpses.{Opening, glimpsed, is_unknown, openings_after}
@@ -27,7 +27,6 @@ unconfirmed_never_verified (Unreadable fault) e = absurd (cc)
 unconfirmed_never_verified UnknownNode e = absurd (cc)
 unconfirmed_never_verified (TooManyConnections checksum) e = absurd (cc)
 unconfirmed_never_verified (Judged (Ok p) checksum) e = absurd (cc)
-unconfirmed_never_verified (Judged (Err (Pass p)) checksum) e = absurd (cc)
 unconfirmed_never_verified (Judged (Err NoAo) checksum) e = absurd (cc)
 unconfirmed_never_verified (Judged (Err TwoAo) checksum) e = absurd (cc)
 unconfirmed_never_verified (Judged (Err WithMd5) checksum) e = absurd (cc)
@@ -43,7 +42,6 @@ unconfirmed_passes (Unreadable fault) e = absurd (cc)
 unconfirmed_passes UnknownNode e = absurd (cc)
 unconfirmed_passes (TooManyConnections checksum) e = absurd (cc)
 unconfirmed_passes (Judged (Ok p) checksum) e = refl
-unconfirmed_passes (Judged (Err (Pass p)) checksum) e = absurd (cc)
 unconfirmed_passes (Judged (Err NoAo) checksum) e = absurd (cc)
 unconfirmed_passes (Judged (Err TwoAo) checksum) e = absurd (cc)
 unconfirmed_passes (Judged (Err WithMd5) checksum) e = absurd (cc)

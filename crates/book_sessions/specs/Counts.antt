@@ -6,7 +6,7 @@ use Rattle.book_segments.specs.Segments.{Reading, Read, Bad, reading}
 use Rattle.book_keys.specs.Rows.{Table}
 use Rattle.book_cmd_check.specs.Captures.{Heard, Saying, Stored, Connection, hear_read}
 use Rattle.book_sessions.specs.declared.outcome.PassedOver.{PassedOver}
-use Rattle.book_endpoint.specs.declared.verdict.Verdict.TheVariants.{NoContext}
+use Rattle.book_endpoint.specs.declared.refusal.Refusal.TheVariants.{NoContext}
 use Rattle.book_sessions.specs.declared.outcome.SegmentOutcome.{SegmentOutcome}
 use Rattle.book_sessions.specs.declared.outcome.SegmentOutcome.TheVariants as outcome
 use Rattle.book_sessions.specs.declared.uses.KeyUse.{KeyUse}

@@ -6,8 +6,8 @@ use Rattle.std.specs.List.{find}
 use Rattle.book_base.specs.declared.address.Socket.{Socket}
 use Rattle.book_segments.specs.Segments.{Segment, has, SYN, ACK}
 use Rattle.book_segments.specs.Sockets.{same_socket}
-use Rattle.book_endpoint.specs.declared.verdict.Verdict.TheVariants.{BadMac, NoContext}
-use Rattle.book_endpoint.specs.declared.verdict.Verdict.TheVariants.{Range}
+use Rattle.book_endpoint.specs.declared.refusal.Refusal.TheVariants.{BadMac, NoContext}
+use Rattle.book_endpoint.specs.declared.refusal.Refusal.TheVariants.{Range}
 use Rattle.book_cmd_check.specs.declared.given.GivenIsns.{GivenIsns}
 use Rattle.book_cmd_check.specs.Captures.{Connection, Saying, Judged, acknowledged_isn}
 use Rattle.book_cmd_check.specs.Captures.{connection_between, is_pass}

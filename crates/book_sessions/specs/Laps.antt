@@ -7,7 +7,7 @@ use Rattle.book_segments.specs.Bytes.{ring}
 use Rattle.book_segments.specs.Segments.{Segment, Read, has, SYN}
 use Rattle.book_keys.specs.Rows.{Table}
 use Rattle.book_endpoint.specs.States.{number_limit}
-use Rattle.book_endpoint.specs.declared.verdict.Verdict.TheVariants.{BadMac, Range}
+use Rattle.book_endpoint.specs.declared.refusal.Refusal.TheVariants.{BadMac, Range}
 use Rattle.book_cmd_check.specs.Captures.{Connection, Heard, Saying, Judged, is_pass}
 use Rattle.book_cmd_check.specs.Captures.{connection_between, expecting, with_connection, hear_read}
 

@@ -4,7 +4,7 @@ use Rattle.std.specs.Prelude.{ℕ, List, [], Option, Some, None, Result, Ok, Err
 use Rattle.book_segments.specs.declared.fault.DatagramFault.{DatagramFault}
 use Rattle.book_segments.specs.Segments.{Segment, Reading, Read, Bad}
 use Rattle.book_endpoint.specs.Verdicts.{Finding}
-use Rattle.book_endpoint.specs.declared.verdict.Verdict.TheVariants.{NoContext}
+use Rattle.book_endpoint.specs.declared.refusal.Refusal.TheVariants.{NoContext}
 use Rattle.book_cmd_check.specs.Captures.{Connection, Heard, Saying, Unreadable, UnknownNode}
 use Rattle.book_cmd_check.specs.Captures.{Judged, TooManyConnections}
 use Rattle.book_cmd_check.specs.declared.given.GivenIsns.{GivenIsns}

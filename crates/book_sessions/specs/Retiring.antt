@@ -9,7 +9,7 @@ use Rattle.book_base.specs.declared.address.Address.{Address}
 use Rattle.book_base.specs.declared.address.Pair.{Pair}
 use Rattle.book_base.specs.declared.address.Socket.{Socket}
 use Rattle.book_segments.specs.Sockets.{same_address, same_socket}
-use Rattle.book_endpoint.specs.declared.verdict.Verdict.TheVariants.{NoContext}
+use Rattle.book_endpoint.specs.declared.refusal.Refusal.TheVariants.{NoContext}
 use Rattle.book_keys.specs.declared.lifetime.Lifetime.{Lifetime}
 use Rattle.book_keys.specs.Lifetimes.{is_covered}
 use Rattle.book_keys.specs.Rows.{Row, Table, has_address, matches, names, sends_for}

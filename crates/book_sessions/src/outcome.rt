@@ -1,6 +1,6 @@
 //! What comes of a packet of a capture.
 use book_captures::Skipped;
-use book_endpoint::Verdict;
+use book_endpoint::Refusal;
 use book_segments::DatagramFault;
 
 /// What comes of a segment of a capture.
@@ -9,7 +9,7 @@ pub enum SegmentOutcome {
     /// It passes: its MAC is right (RFC 5925, section 7.5).
     Verified,
     /// It is refused for this reason.
-    Refused(Verdict),
+    Refused(Refusal),
     /// No node of the tables has its destination's address, or both its sockets are one.
     NoNode,
     /// It passes, and would fix a connection more than are held.
@@ -17,7 +17,7 @@ pub enum SegmentOutcome {
     /// The handshake of its connection isn't verified; it passes under initial sequence numbers that were seen.
     Unconfirmed,
     /// The same, and under these numbers it is refused for this reason.
-    UnconfirmedRefused(Verdict),
+    UnconfirmedRefused(Refusal),
     /// It was cut off, and its headers are there.
     CutOff,
 }

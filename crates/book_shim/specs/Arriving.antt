@@ -6,7 +6,7 @@ use Rattle.book_base.specs.Results.{◌>>=◌}
 use Rattle.book_segments.specs.Segments.{Segment, Reading, Bad as Unread, Read, reading, has, good}
 use Rattle.book_segments.specs.Segments.{SYN, ACK, RST, segment_length}
 use Rattle.book_keys.specs.Coordination.{follow}
-use Rattle.book_endpoint.specs.declared.verdict.Verdict.TheVariants.{NoContext}
+use Rattle.book_endpoint.specs.declared.refusal.Refusal.TheVariants.{NoContext}
 use Rattle.book_endpoint.specs.Verdicts.{Finding, Judgement, Known, judge}
 use Rattle.book_endpoint.specs.Arrivals.{from_peer}
 use Rattle.book_shim.specs.declared.refusal.Untaken.{Untaken}

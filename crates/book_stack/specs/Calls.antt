@@ -8,7 +8,7 @@ use Rattle.book_keys.specs.Tables.{Adding, AddedAs, adding, row_of_new, withdraw
 use Rattle.book_keys.specs.Rows.{Row}
 use Rattle.book_endpoint.specs.declared.arrival.Arrival.{Arrival}
 use Rattle.book_endpoint.specs.declared.arrival.Arrival.TheVariants.{Bad}
-use Rattle.book_endpoint.specs.declared.verdict.Verdict.{Verdict}
+use Rattle.book_endpoint.specs.declared.refusal.Refusal.{Refusal}
 use Rattle.book_endpoint.specs.States.{EndState}
 use Rattle.book_endpoint.specs.Arrivals as book
 use Rattle.book_endpoint.specs.Emissions.{Emission}
@@ -47,7 +47,7 @@ pub data CallAnswer : Type 0 where
   Told : (outcome : NodeOutcome) → CallAnswer
   Moves : (outcome : NodeOutcome) → CallAnswer
   Knocks : (pair : Pair) → CallAnswer
-  Refuses : (why : Verdict) → CallAnswer
+  Refuses : (why : Refusal) → CallAnswer
   Hands : (emission : Emission) → CallAnswer
   Rests : CallAnswer
   Adds : (adding : Adding) → CallAnswer

@@ -14,7 +14,7 @@ use Rattle.book_macs.specs.Keys.{derivation_input, key_length, mac, traffic_key}
 use Rattle.book_macs.specs.MacInput.{covered, mac_input}
 use Rattle.book_keys.specs.Rows.{Row}
 use Rattle.book_keys.specs.Choices.{Numbered, accept_row, has_id}
-use Rattle.book_endpoint.specs.declared.verdict.Verdict.TheVariants.{NoTuple, Expired, MacLength, NoContext, Range, BadMac}
+use Rattle.book_endpoint.specs.declared.refusal.Refusal.TheVariants.{NoTuple, Expired, MacLength, NoContext, Range, BadMac}
 use Rattle.book_endpoint.specs.States.{number_limit}
 use Rattle.book_endpoint.specs.Verdicts.{Finding, Judgement, Known, found_with, judge, mac_of, one_ao, require, row_taking, segment_number}
 use Rattle.book_base.specs.Algorithms.{mac_length_of}

@@ -2,7 +2,7 @@
 ghost use Rattle.std.specs.Prelude.{◌≡◌, ◌≢◌, ◌≤◌, ◌↔◌, ℕ, List, length, Contains, Ok, Err};
 ghost use Rattle.book_base.specs.declared.address.Pair.{Pair};
 ghost use Rattle.book_keys.specs.Rows.{Row};
-ghost use Rattle.book_endpoint.specs.declared.verdict.Verdict.TheVariants.{BadMac};
+ghost use Rattle.book_endpoint.specs.declared.refusal.Refusal.TheVariants.{BadMac};
 ghost use Rattle.book_endpoint.specs.Verdicts.{Known, judge, mac_of};
 ghost use Rattle.book_why.specs.declared.change.Change.{Change};
 ghost use Rattle.book_why.specs.declared.change.Change.TheVariants.{AnotherRow, OtherConnection};

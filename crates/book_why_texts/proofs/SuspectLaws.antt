@@ -11,8 +11,8 @@ use Rattle.book_segments.proofs.SocketLaws.{same_bytes-refl}
 use Rattle.book_macs.specs.Contexts.{context, context_known, context_of, context_of_later, context_of_syn}
 use Rattle.book_keys.specs.Choices.{Numbered, accept_row, has_id}
 use Rattle.book_endpoint.specs.States.{number_limit}
-use Rattle.book_endpoint.specs.declared.verdict.Verdict.{Verdict}
-use Rattle.book_endpoint.specs.declared.verdict.Verdict.TheVariants.{Pass, NoAo, TwoAo, WithMd5, NoTuple, Expired, MacLength, NoContext, Range, BadMac}
+use Rattle.book_endpoint.specs.declared.refusal.Refusal.{Refusal}
+use Rattle.book_endpoint.specs.declared.refusal.Refusal.TheVariants.{NoAo, TwoAo, WithMd5, NoTuple, Expired, MacLength, NoContext, Range, BadMac}
 use Rattle.book_endpoint.specs.Verdicts.{Finding, Judgement, Known, found_with, judge, mac_of, one_ao, require, row_taking, segment_number}
 use Rattle.book_cmd_check.specs.Captures.{Connection, acknowledged_isn, judge_later, judge_stored}
 use Rattle.book_why.specs.declared.change.IsnPair.{IsnPair}
@@ -80,7 +80,6 @@ Late (Err Expired) = ⊥
 Late (Err MacLength) = ⊥
 Late (Err NoContext) = ⊥
 Late (Err Range) = ⊥
-Late (Err (Pass p)) = ⊥
 
 -- the check comes to the MAC of a segment
 record Comes (s : Sight) : Type 0 where

@@ -9,10 +9,10 @@ use Rattle.book_segments.specs.Segments.{Segment, segment_length, pair_reached}
 use Rattle.book_keys.specs.Rows.{Table}
 use Rattle.book_keys.specs.Choices.{Numbered}
 use Rattle.book_endpoint.specs.States.{number_limit}
-use Rattle.book_endpoint.specs.declared.verdict.Verdict.{Verdict}
-use Rattle.book_endpoint.specs.declared.verdict.Verdict.TheVariants.{Pass, NoAo, TwoAo, WithMd5}
-use Rattle.book_endpoint.specs.declared.verdict.Verdict.TheVariants.{NoTuple, Expired, MacLength}
-use Rattle.book_endpoint.specs.declared.verdict.Verdict.TheVariants.{NoContext, Range, BadMac}
+use Rattle.book_endpoint.specs.declared.refusal.Refusal.{Refusal}
+use Rattle.book_endpoint.specs.declared.refusal.Refusal.TheVariants.{NoAo, TwoAo, WithMd5}
+use Rattle.book_endpoint.specs.declared.refusal.Refusal.TheVariants.{NoTuple, Expired, MacLength}
+use Rattle.book_endpoint.specs.declared.refusal.Refusal.TheVariants.{NoContext, Range, BadMac}
 use Rattle.book_endpoint.specs.Verdicts.{Judgement}
 use Rattle.book_lines.specs.Texts.{line_text}
 use Rattle.book_cmd_show.specs.DatagramTexts.{options_texts}
@@ -130,8 +130,7 @@ abbrev pub wrong_mac_lines : Inquiry → Suspect → List ℕ
 wrong_mac_lines q s = mac_lines q.with_key s ++ changes_lines q s
 
 -- what decided that a segment is refused for this reason (RFC 5925, section 7.5)
-abbrev pub refusal_lines : Inquiry → Verdict → List ℕ
-refusal_lines q (Pass passed) = []
+abbrev pub refusal_lines : Inquiry → Refusal → List ℕ
 refusal_lines q NoAo = options_line q.sight.segment
 refusal_lines q TwoAo = options_line q.sight.segment
 refusal_lines q WithMd5 = options_line q.sight.segment

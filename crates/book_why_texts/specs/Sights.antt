@@ -6,8 +6,8 @@ use Rattle.book_segments.specs.Options.{Ao, find_ao}
 use Rattle.book_segments.specs.Segments.{Segment, has, SYN, ACK, pair_reached}
 use Rattle.book_keys.specs.Rows.{Table}
 use Rattle.book_keys.specs.Choices.{Numbered}
-use Rattle.book_endpoint.specs.declared.verdict.Verdict.{Verdict}
-use Rattle.book_endpoint.specs.declared.verdict.Verdict.TheVariants.{NoContext, Range}
+use Rattle.book_endpoint.specs.declared.refusal.Refusal.{Refusal}
+use Rattle.book_endpoint.specs.declared.refusal.Refusal.TheVariants.{NoContext, Range}
 use Rattle.book_endpoint.specs.Verdicts.{Known, one_ao, row_taking, segment_number}
 use Rattle.book_cmd_check.specs.Captures.{Connection, acknowledged_isn}
 use Rattle.book_why.specs.declared.change.IsnPair.{IsnPair}
@@ -64,18 +64,18 @@ abbrev pub number_at : Sight → Option ℕ
 number_at s = segment_number s.segment (known_at s).expected
 
 -- the one TCP-AO option of a segment, or why it is refused in front of that (RFC 5925, section 2.2)
-abbrev pub ao_at : Sight → Result Ao Verdict
+abbrev pub ao_at : Sight → Result Ao Refusal
 ao_at s = one_ao (find_ao s.segment.area)
 
 -- the row that takes a segment, or why it is refused in front of that (RFC 5925, section 7.5)
-unfoldable pub row_at : Sight → Result Numbered Verdict
+unfoldable pub row_at : Sight → Result Numbered Refusal
 row_at s = do
   ao ← ao_at s
   row_taking s.table.rows (pair_reached s.segment) ao.key_id s.now
 
 -- a segment whose MAC is in question, with its option, its row, its initial sequence numbers and
 -- its number, or why it is refused in front of that (RFC 5925, section 7.5)
-unfoldable pub suspect_at : Sight → Result Suspect Verdict
+unfoldable pub suspect_at : Sight → Result Suspect Refusal
 suspect_at s = do
   ao ← ao_at s
   row ← row_at s

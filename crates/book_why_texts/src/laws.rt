@@ -8,7 +8,7 @@ ghost use Rattle.book_cmd_check.specs.declared.given.GivenIsns.{GivenIsns};
 ghost use Rattle.book_cmd_check.specs.Captures.{Stored, hear, judge_stored, sayings_from};
 ghost use Rattle.book_cmd_check.specs.Connections.{connections_after};
 ghost use Rattle.book_cmd_check.specs.Handshakes.{given_after};
-ghost use Rattle.book_endpoint.specs.declared.verdict.Verdict.TheVariants.{BadMac};
+ghost use Rattle.book_endpoint.specs.declared.refusal.Refusal.TheVariants.{BadMac};
 ghost use Rattle.book_endpoint.specs.Verdicts.{Finding, judge};
 ghost use Rattle.book_keys.specs.Choices.{accept_row, acceptable_as};
 ghost use Rattle.book_keys.specs.Rows.{Row, Table};

@@ -11,7 +11,7 @@ use Rattle.book_segments.specs.Sockets.{same_socket}
 use Rattle.book_segments.proofs.Fields.{some_is}
 use Rattle.book_segments.proofs.SocketLaws.{low_apart}
 use Rattle.book_keys.specs.Rows.{Row, Table}
-use Rattle.book_endpoint.specs.declared.verdict.Verdict.{Verdict}
+use Rattle.ao_check.specs.Verdicts.{Verdict}
 use Rattle.book_endpoint.specs.Verdicts.{Judgement, judge}
 use Rattle.book_cmd_show.specs.declared.checksum.Checksum.{Checksum}
 use Rattle.book_cmd_show.specs.DatagramTexts.{checksum_in}

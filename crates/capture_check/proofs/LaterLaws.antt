@@ -9,7 +9,7 @@ use Rattle.book_segments.specs.Segments.{Segment, Read, has, segment_length, SYN
 use Rattle.book_segments.specs.Sockets.{same_socket}
 use Rattle.book_segments.proofs.SocketLaws.{same_socket-refl}
 use Rattle.book_keys.specs.Rows.{Row, Table, has_address}
-use Rattle.book_endpoint.specs.declared.verdict.Verdict.{Verdict}
+use Rattle.ao_check.specs.Verdicts.{Verdict}
 use Rattle.book_endpoint.specs.Verdicts.{Judgement}
 use Rattle.book_cmd_show.specs.DatagramTexts.{checksum_in}
 use Rattle.book_cmd_check.specs.Captures.{Connection, Heard, connection_between, expecting, hear_judged, hear_later, hear_read, joins, judge_stored, with_connection}

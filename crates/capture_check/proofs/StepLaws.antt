@@ -12,8 +12,7 @@ use Rattle.book_segments.specs.Sockets.{same_socket}
 use Rattle.std.specs.List.{find}
 use Rattle.book_segments.proofs.SocketLaws.{low_apart}
 use Rattle.book_keys.specs.Rows.{Row, Table, has_address}
-use Rattle.book_endpoint.specs.declared.verdict.Verdict.{Verdict}
-use Rattle.book_endpoint.specs.declared.verdict.Verdict.TheVariants.{Pass, NoAo, TwoAo, WithMd5, NoTuple, Expired, MacLength, NoContext, Range, BadMac}
+use Rattle.book_endpoint.specs.declared.refusal.Refusal.{Refusal}
 use Rattle.book_endpoint.specs.Verdicts.{Finding, Judgement, judge}
 use Rattle.book_cmd_show.specs.DatagramTexts.{checksum_in}
 use Rattle.book_cmd_check.specs.Captures.{Connection, Heard, connection_between, hear_judged, hear_later, judge_stored, with_connection}
@@ -21,7 +20,7 @@ use Rattle.book_segments.specs.Segments.{pair_reached}
 use Rattle.ao_kdf.specs.declared.way.Way.TheVariants.{Inbound}
 use Rattle.ao_check.specs.Bonds.{Bond}
 use Rattle.wrap_seq.specs.Counter.{number}
-use Rattle.ao_check.specs.Verdicts.{Tells, judging}
+use Rattle.ao_check.specs.Verdicts.{Verdict, Tells, judging}
 use Rattle.capture_check.specs.declared.answer.CheckLine.{CheckLine}
 use Rattle.capture_check.specs.declared.answer.CheckLine.TheVariants as line
 use Rattle.capture_check.specs.declared.flow.Flow.{Flow}
@@ -36,43 +35,19 @@ use Rattle.capture_check.proofs.KeepLaws.{keys_heard}
 -- ---- verdicts
 
 pub told_judged : (rows : List Row) (pair : Pair) (d : Segment) (v : Verdict) (j : Judgement) → Tells rows pair d v j → IsJudged v j
-told_judged rows pair d (Pass p) j (entry, e, n) =
+told_judged rows pair d (Ok p) j (entry, e, n) =
     let is = n.entry_is in
     (entry, e, record { row = ap (λ (x : Finding). x.row) is; number = ap (λ (x : Finding). x.number) is; context = ap (λ (x : Finding). x.context) is })
-told_judged rows pair d NoAo j e = e
-told_judged rows pair d TwoAo j e = e
-told_judged rows pair d WithMd5 j e = e
-told_judged rows pair d NoTuple j e = e
-told_judged rows pair d Expired j e = e
-told_judged rows pair d MacLength j e = e
-told_judged rows pair d NoContext j e = e
-told_judged rows pair d Range j e = e
-told_judged rows pair d BadMac j e = e
+told_judged rows pair d (Err why) j e = e
 
 -- a verdict that isn't a pass is told of no segment that passes
 pub not_admitted : (v : Verdict) (p : Finding) → IsJudged v (Ok p) → is_pass v ≡ false → ⊥
-not_admitted (Pass x) p e f = absurd (cc)
-not_admitted NoAo p e f = absurd (cc)
-not_admitted TwoAo p e f = absurd (cc)
-not_admitted WithMd5 p e f = absurd (cc)
-not_admitted NoTuple p e f = absurd (cc)
-not_admitted Expired p e f = absurd (cc)
-not_admitted MacLength p e f = absurd (cc)
-not_admitted NoContext p e f = absurd (cc)
-not_admitted Range p e f = absurd (cc)
-not_admitted BadMac p e f = absurd (cc)
+not_admitted (Ok x) p e f = absurd (cc)
+not_admitted (Err why) p e f = absurd (cc)
 
-pub not_refused : (v why : Verdict) → IsJudged v (Err why) → is_pass v ≡ true → ⊥
-not_refused (Pass x) why e f = let is = e.1 in absurd (cc)
-not_refused NoAo why e f = absurd (cc)
-not_refused TwoAo why e f = absurd (cc)
-not_refused WithMd5 why e f = absurd (cc)
-not_refused NoTuple why e f = absurd (cc)
-not_refused Expired why e f = absurd (cc)
-not_refused MacLength why e f = absurd (cc)
-not_refused NoContext why e f = absurd (cc)
-not_refused Range why e f = absurd (cc)
-not_refused BadMac why e f = absurd (cc)
+pub not_refused : (v : Verdict) (why : Refusal) → IsJudged v (Err why) → is_pass v ≡ true → ⊥
+not_refused (Ok x) why e f = let is = e.1 in absurd (cc)
+not_refused (Err other) why e f = absurd (cc)
 
 -- ---- what is known of the connection of a segment
 

@@ -4,13 +4,11 @@ use Rattle.book_segments.specs.Faults.{fault_text}
 use Rattle.book_link.specs.Reports.{verdict_text}
 use Rattle.book_macs.specs.Contexts.{bytes_of}
 use Rattle.book_endpoint.specs.Verdicts.{Finding, Judgement}
-use Rattle.book_endpoint.specs.declared.verdict.Passed.{Passed}
-use Rattle.book_endpoint.specs.declared.verdict.Verdict.{Verdict}
-use Rattle.book_endpoint.specs.declared.verdict.Verdict.TheVariants.{Pass}
+use Rattle.book_endpoint.specs.declared.passed.Passed.{Passed}
 use Rattle.book_cmd_check.specs.Captures as book
 use Rattle.book_cmd_show.specs.declared.checksum.Checksum.{Checksum}
 use Rattle.book_cmd_show.specs.DatagramTexts.{checksum_text}
-use Rattle.ao_check.specs.Verdicts.{is_judged}
+use Rattle.ao_check.specs.Verdicts.{Verdict, is_judged}
 use Rattle.capture_check.specs.declared.answer.CheckLine.{CheckLine}
 use Rattle.capture_check.specs.declared.answer.CheckLine.TheVariants as line
 
@@ -22,8 +20,8 @@ pub record IsFound (p : Passed) (entry : Finding) : Type 0 where
 
 -- the verdict is that judgement
 abbrev pub IsJudged : Verdict → Judgement → Type 0
-IsJudged (Pass p) j = (entry : Finding) × (j ≡ Ok entry) × IsFound p entry
-IsJudged why j = j ≡ Err why
+IsJudged (Ok p) j = (entry : Finding) × (j ≡ Ok entry) × IsFound p entry
+IsJudged (Err why) j = j ≡ Err why
 
 -- the answer is what is said of the segment
 abbrev pub Says : CheckLine → book.Saying → Type 0
@@ -40,13 +38,13 @@ is_computed _ = false
 
 -- a pass
 abbrev pub is_pass : Verdict → Bool
-is_pass (Pass p) = true
-is_pass why = false
+is_pass (Ok p) = true
+is_pass (Err why) = false
 
 -- the words for a verdict
 abbrev pub verdict_texts : Verdict → List (List ℕ)
-verdict_texts (Pass p) = codes "pass" ∷ codes "row" ∷ decimal p.row ∷ codes "number" ∷ decimal p.number ∷ []
-verdict_texts why = codes "refused" ∷ verdict_text why ∷ []
+verdict_texts (Ok p) = codes "pass" ∷ codes "row" ∷ decimal p.row ∷ codes "number" ∷ decimal p.number ∷ []
+verdict_texts (Err why) = codes "refused" ∷ verdict_text why ∷ []
 
 -- the words for a checksum
 abbrev pub checksum_texts : Checksum → List (List ℕ)

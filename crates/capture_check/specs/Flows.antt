@@ -7,7 +7,6 @@ use Rattle.book_segments.specs.Bytes.{ring}
 use Rattle.book_segments.specs.Options.{find_ao}
 use Rattle.book_segments.specs.Segments.{Segment, has, segment_length, SYN}
 use Rattle.book_keys.specs.Rows.{Row, Table, has_address}
-use Rattle.book_endpoint.specs.declared.verdict.Verdict.{Verdict}
 use Rattle.book_endpoint.specs.Verdicts.{Judgement, judge}
 use Rattle.book_cmd_check.specs.Captures.{Connection, KnownSide}
 use Rattle.wrap_seq.specs.declared.counter.Counter.{Counter}
@@ -15,7 +14,7 @@ use Rattle.wrap_seq.specs.Counter.{number}
 use Rattle.ao_kdf.specs.declared.way.Way.TheVariants.{Inbound}
 use Rattle.ao_kdf.specs.Cache.{empty}
 use Rattle.ao_check.specs.Bonds.{Fits, Counted}
-use Rattle.ao_check.specs.Verdicts.{Tells, is_judged, judging}
+use Rattle.ao_check.specs.Verdicts.{Verdict, Tells, is_judged, judging}
 use Rattle.capture_check.specs.declared.flow.Flow.{Flow}
 use Rattle.capture_check.specs.declared.flows.Flows.{Flows}
 

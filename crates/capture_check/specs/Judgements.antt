@@ -6,13 +6,12 @@ use Rattle.book_base.specs.Orders.{by_pair, is_low, sorted_pair}
 use Rattle.book_segments.specs.Options.{find_ao}
 use Rattle.book_segments.specs.Segments.{Segment, has, SYN}
 use Rattle.book_keys.specs.Rows.{Row, Table}
-use Rattle.book_endpoint.specs.declared.verdict.Verdict.{Verdict}
 use Rattle.book_endpoint.specs.Verdicts.{judge}
 use Rattle.book_cmd_check.specs.declared.given.GivenIsns.{GivenIsns}
 use Rattle.book_cmd_check.specs.Captures.{most_connections}
 use Rattle.book_cmd_check.specs.Handshakes.{told_by}
 use Rattle.book_segments.specs.Segments.{pair_reached}
-use Rattle.ao_check.specs.Verdicts.{Tells, judging}
+use Rattle.ao_check.specs.Verdicts.{Verdict, Tells, judging}
 use Rattle.capture_check.specs.declared.flows.Flows.{Flows}
 use Rattle.capture_check.specs.declared.known.KnownConnection.{KnownConnection}
 use Rattle.wrap_seq.specs.Counter.{number}

@@ -2,8 +2,8 @@
 use Rattle.std.specs.Prelude.{◌≡◌, ℕ, Option, Some, None, Result, Ok, Err}
 use Rattle.book_lines.specs.declared.line_kind.LineKind.{LineKind}
 use Rattle.book_cmd_check.specs.Captures as book
-use Rattle.text_lines.specs.declared.refusal.Refusal.{Refusal}
-use Rattle.text_lines.specs.declared.refusal.Refusal.TheVariants as refusal
+use Rattle.text_lines.specs.declared.word_problem.WordProblem.{WordProblem}
+use Rattle.text_lines.specs.declared.word_problem.WordProblem.TheVariants as refusal
 use Rattle.capture_check.specs.declared.stored.LineProblem.{LineProblem}
 use Rattle.capture_check.specs.declared.stored.LineProblem.TheVariants as problem
 use Rattle.capture_check.specs.declared.stored.Stored.{Stored}
@@ -15,7 +15,7 @@ stored_as n Empty = None
 stored_as n (Segment time bytes) = Some (record { number = n; time = time; bytes = bytes })
 
 -- what the words of a line were read as is what they say, unless memory ran out
-abbrev pub IsStoredAs : ℕ → Result Stored Refusal → Result book.Stored LineKind → Type 0
+abbrev pub IsStoredAs : ℕ → Result Stored WordProblem → Result book.Stored LineKind → Type 0
 IsStoredAs n (Ok Empty) said = ⊥
 IsStoredAs n (Ok (Segment time bytes)) said = said ≡ Ok (record { number = n; time = time; bytes = bytes })
 IsStoredAs n (Err refusal.Memory) said = Unit {0}

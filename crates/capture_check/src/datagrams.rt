@@ -19,7 +19,7 @@ use crate::judgement::{fix, fix_given, hear_later, judge_alone};
 use crate::known::KnownConnection;
 use crate::segment::acknowledged_isn;
 use ao_base::{Steps, is_same_socket};
-use ao_check::Verdict;
+use ao_check::{Passed, Refusal};
 use book_base::{Pair, Socket};
 use book_cmd_check::GivenIsns;
 use key_table::{Table, Tables};
@@ -112,10 +112,10 @@ fn hear_next<L: Ledger>(
     Ok(CheckLine::Verdict(verdict, checksum))
 }
 
-fn is_pass(verdict: &Verdict) -> bool
+fn is_pass(verdict: &Result<Passed, Refusal>) -> bool
     ensures { result ≡ is_pass verdict.now }
 {
-    matches!(verdict, Verdict::Pass(_))
+    verdict.is_ok()
 }
 
 /// Takes it that a handshake with these initial sequence numbers passed; whether there was room.

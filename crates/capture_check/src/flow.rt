@@ -5,7 +5,7 @@ ghost use Rattle.wrap_seq.specs.Counter.{number};
 ghost use Rattle.ao_check.specs.Bonds.{fresh, Fits};
 
 use ao_base::Steps;
-use ao_check::{Association, Verdict};
+use ao_check::{Association, Passed, Refusal};
 use book_base::{Pair, Socket};
 use key_table::{Table, Tables};
 use std::alloc::{AllocError, Global};
@@ -89,7 +89,7 @@ impl Flow {
         given: Option<u64>,
         datagram: &Datagram<'_>,
         steps: &mut Steps<L>,
-    ) -> Verdict
+    ) -> Result<Passed, Refusal>
         requires fits { Fits table.now.rows self.old.receiver }
         requires source { datagram.now.source ≡ self.old.receiver.pair.remote }
         requires destination { datagram.now.destination ≡ self.old.receiver.pair.local }
@@ -102,7 +102,7 @@ impl Flow {
         let verdict = self
             .receiver
             .check(table, time, Some(expected), datagram, steps);
-        if let Verdict::Pass(passed) = &verdict {
+        if let Ok(passed) = &verdict {
             self.expected = Counter::of(expected.max(passed.number + datagram.segment_length()));
         }
         verdict

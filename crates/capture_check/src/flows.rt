@@ -8,7 +8,7 @@ ghost use Rattle.capture_check.specs.Judgements.{FlowsHear, has_isns, numbers_in
 use crate::flow::Flow;
 use crate::known::KnownConnection;
 use ao_base::Steps;
-use ao_check::Verdict;
+use ao_check::{Passed, Refusal};
 use book_base::Socket;
 use key_table::{Table, Tables};
 use std::alloc::{AllocError, Global};
@@ -90,7 +90,7 @@ impl Flows {
         given: Option<u64>,
         datagram: &Datagram<'_>,
         steps: &mut Steps<L>,
-    ) -> Verdict
+    ) -> Result<Passed, Refusal>
         requires fits { Fits table.now.rows (way low self.old).receiver }
         requires source { datagram.now.source ≡ (way low self.old).receiver.pair.remote }
         requires destination { datagram.now.destination ≡ (way low self.old).receiver.pair.local }

@@ -13,7 +13,7 @@ ghost use Rattle.capture_check.specs.Judgements.{Alone, AloneCounts, HearsLater,
 use crate::flows::Flows;
 use crate::segment::{acknowledged_isn, pair_at};
 use ao_base::Steps;
-use ao_check::{Association, Verdict};
+use ao_check::{Association, Passed, Refusal};
 use book_base::Pair;
 use book_cmd_check::GivenIsns;
 use key_table::{Table, Tables};
@@ -33,7 +33,7 @@ pub(crate) fn judge_alone<L: Ledger>(
     time: u64,
     datagram: &Datagram<'_>,
     steps: &mut Steps<L>,
-) -> Result<Verdict, AllocError>
+) -> Result<Result<Passed, Refusal>, AllocError>
     ensures alone { IfOk result (λ v. Alone table.now.rows time own_isn datagram.now v) }
     ensures counts { AloneCounts table.now.rows time datagram.now steps.old steps.new }
     ensures idle { IfOk result (λ v. is_judged v ≡ false → steps.new ≡ steps.old) }
@@ -55,7 +55,7 @@ pub(crate) fn hear_later<L: Ledger>(
     given: Option<u64>,
     datagram: &Datagram<'_>,
     steps: &mut Steps<L>,
-) -> Result<Verdict, AllocError>
+) -> Result<Result<Passed, Refusal>, AllocError>
     requires sound { IsSound tables.now connections.old.entries }
     requires table { find (has_address datagram.now.destination.address) tables.now ≡ Some table.now }
     requires differ { same_socket datagram.now.source datagram.now.destination ≡ false }

@@ -11,7 +11,7 @@ use book_keys::LATEST;
 use book_lines::LineKind;
 use book_pcap::LONGEST_DATAGRAM;
 use std::alloc::Global;
-use text_lines::{LineWords, Refusal};
+use text_lines::{LineWords, WordProblem};
 
 /// What a line has.
 #[derive(Debug, Drop)]
@@ -51,7 +51,7 @@ fn says(line: &[u8]) -> bool
 }
 
 /// A time and a datagram in hexadecimal.
-fn read_words(alloc: Global, words: &mut LineWords<'_>) -> Result<Stored, Refusal>
+fn read_words(alloc: Global, words: &mut LineWords<'_>) -> Result<Stored, WordProblem>
     ensures { (n : ℕ) → IsStoredAs n result (stored_of n words.old) }
 {
     let time = words.number(0, LATEST)?;
@@ -73,7 +73,7 @@ pub fn read_line(alloc: Global, line: &[u8]) -> Result<Stored, LineProblem>
     }
     match read_words(alloc, &mut LineWords::new(line)) {
         Ok(stored) => Ok(stored),
-        Err(Refusal::Memory) => Err(LineProblem::Memory),
-        Err(Refusal::Kind(kind)) => Err(LineProblem::Bad(kind)),
+        Err(WordProblem::Memory) => Err(LineProblem::Memory),
+        Err(WordProblem::Kind(kind)) => Err(LineProblem::Bad(kind)),
     }
 }

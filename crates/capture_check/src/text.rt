@@ -8,7 +8,7 @@ ghost use Rattle.capture_check.specs.Answers.{Says, answer_texts, verdict_texts}
 
 use crate::answer::CheckLine;
 use ao_base::push_decimal;
-use book_endpoint::{Passed, Verdict};
+use book_endpoint::{Passed, Refusal};
 use segment_words::{push_checksum, push_fault, verdict_word};
 use std::alloc::AllocError;
 use text_lines::{push_field, push_newline, push_text};
@@ -22,28 +22,20 @@ fn push_pass(out: &mut Vec<u8>, passed: &Passed) -> Result<(), AllocError>
     push_field(out, b"number", passed.number)
 }
 
-fn push_verdict(out: &mut Vec<u8>, verdict: &Verdict) -> Result<(), AllocError>
+fn push_verdict(out: &mut Vec<u8>, verdict: &Result<Passed, Refusal>) -> Result<(), AllocError>
     ensures { OnOk result (out.new.items ≡ out.old.items ++ spaced (verdict_texts verdict.now)) }
 {
     match verdict {
-        Verdict::Pass(passed) => push_pass(out, passed),
-        Verdict::NoAo => push_refused(out, verdict),
-        Verdict::TwoAo => push_refused(out, verdict),
-        Verdict::WithMd5 => push_refused(out, verdict),
-        Verdict::NoTuple => push_refused(out, verdict),
-        Verdict::Expired => push_refused(out, verdict),
-        Verdict::MacLength => push_refused(out, verdict),
-        Verdict::NoContext => push_refused(out, verdict),
-        Verdict::Range => push_refused(out, verdict),
-        Verdict::BadMac => push_refused(out, verdict),
+        Ok(passed) => push_pass(out, passed),
+        Err(why) => push_refused(out, *why),
     }
 }
 
-fn push_refused(out: &mut Vec<u8>, verdict: &Verdict) -> Result<(), AllocError>
-    ensures { OnOk result (out.new.items ≡ out.old.items ++ spaced (codes "refused" ∷ verdict_text verdict.now ∷ [])) }
+fn push_refused(out: &mut Vec<u8>, why: Refusal) -> Result<(), AllocError>
+    ensures { OnOk result (out.new.items ≡ out.old.items ++ spaced (codes "refused" ∷ verdict_text why ∷ [])) }
 {
     push_text(out, b"refused")?;
-    push_text(out, verdict_word(*verdict))
+    push_text(out, verdict_word(why))
 }
 
 fn push_answer(out: &mut Vec<u8>, line: &CheckLine) -> Result<(), AllocError>
@@ -82,6 +74,6 @@ impl CheckLine {
     pub fn is_pass(&self) -> bool
         ensures { (s : Saying) → Says self.now s → result ≡ book.is_pass s }
     {
-        matches!(self, CheckLine::Verdict(Verdict::Pass(_), _))
+        matches!(self, CheckLine::Verdict(Ok(_), _))
     }
 }

@@ -11,7 +11,7 @@ use Rattle.book_segments.proofs.Fields.{some_is}
 use Rattle.book_keys.specs.Rows.{Table, has_address}
 use Rattle.book_endpoint.specs.States.{number_limit}
 use Rattle.book_endpoint.specs.Verdicts.{Judgement}
-use Rattle.book_endpoint.specs.declared.verdict.Verdict.TheVariants.{Pass, NoAo, TwoAo, WithMd5, NoTuple, Expired, MacLength, NoContext, Range, BadMac}
+use Rattle.book_endpoint.specs.declared.refusal.Refusal.TheVariants.{NoAo, TwoAo, WithMd5, NoTuple, Expired, MacLength, NoContext, Range, BadMac}
 use Rattle.book_cmd_show.specs.declared.checksum.Checksum.TheVariants.{Good}
 use Rattle.book_cmd_show.specs.DatagramTexts.{checksum_in}
 use Rattle.book_cmd_check.specs.Captures.{Connection, Heard, Saying, Unreadable, UnknownNode, Judged, TooManyConnections, connection_between, fixed, hear_at, hear_judged, hear_later, hear_syn_ack, is_pass, judge_stored, most_connections, with_connection}
@@ -80,7 +80,6 @@ not_syn d (Unreadable fault) e f = absurd (cc)
 not_syn d UnknownNode e f = absurd (cc)
 not_syn d (TooManyConnections checksum) e f = absurd (cc)
 not_syn d (Judged (Ok p) checksum) e f = absurd (cc)
-not_syn d (Judged (Err (Pass p)) checksum) e f = absurd (cc)
 not_syn d (Judged (Err NoAo) checksum) e f = absurd (cc)
 not_syn d (Judged (Err TwoAo) checksum) e f = absurd (cc)
 not_syn d (Judged (Err WithMd5) checksum) e f = absurd (cc)
@@ -191,16 +190,8 @@ searched_refused : (l : CheckLine) → says_searched l ≡ true → says_refused
 searched_refused (line.Bad fault) e = absurd (cc)
 searched_refused line.UnknownNode e = absurd (cc)
 searched_refused (line.Full checksum) e = absurd (cc)
-searched_refused (line.Verdict (Pass p) checksum) e = absurd (cc)
-searched_refused (line.Verdict NoAo checksum) e = refl
-searched_refused (line.Verdict TwoAo checksum) e = refl
-searched_refused (line.Verdict WithMd5 checksum) e = refl
-searched_refused (line.Verdict NoTuple checksum) e = refl
-searched_refused (line.Verdict Expired checksum) e = refl
-searched_refused (line.Verdict MacLength checksum) e = refl
-searched_refused (line.Verdict NoContext checksum) e = refl
-searched_refused (line.Verdict Range checksum) e = refl
-searched_refused (line.Verdict BadMac checksum) e = refl
+searched_refused (line.Verdict (Ok p) checksum) e = absurd (cc)
+searched_refused (line.Verdict (Err why) checksum) e = refl
 
 -- a segment is heard, and isn't searched
 pub heard_plain : (j : Judging) (held : List Connection) (now : ℕ) (d : Segment) (after : List (Pair × Flows)) (l : CheckLine) (u v : Bool) → Hears after l (heard_by j now d held)

@@ -2,7 +2,7 @@
 use Rattle.std.proofs.Common.{◌≡◌, ℕ, List, Option, Some, None, option_map, refl, sym, ap, ◌∙◌}
 use Rattle.std.specs.Option.{unwrap_or}
 use Rattle.book_endpoint.specs.Verdicts.{Finding}
-use Rattle.book_endpoint.specs.declared.verdict.Passed.{Passed}
+use Rattle.book_endpoint.specs.declared.passed.Passed.{Passed}
 use Rattle.book_cmd_check.specs.Captures.{Connection}
 use Rattle.book_segments.specs.Segments.{Segment}
 use Rattle.book_sessions.specs.declared.uses.FlowIsns.{FlowIsns}

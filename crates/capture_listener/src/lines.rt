@@ -1,9 +1,9 @@
 //! What a line of a checker says.
 ghost use Rattle.std.specs.Prelude.{◌≡◌};
-ghost use Rattle.capture_listener.specs.Lines.{is_refusal, line_anew, verdict_anew, says_bad_mac, says_judged};
+ghost use Rattle.capture_listener.specs.Lines.{line_anew, refusal_anew, says_bad_mac, says_judged};
 ghost use Rattle.capture_listener.specs.Lines.{says_range, says_refused, says_searched, says_unknown};
 
-use book_endpoint::Verdict;
+use book_endpoint::Refusal;
 use capture_check::CheckLine;
 
 /// Whether a node judged the segment.
@@ -13,36 +13,30 @@ pub(crate) fn is_judged(line: &CheckLine) -> bool
     matches!(line, CheckLine::Verdict(_, _))
 }
 
-fn is_refusal(verdict: &Verdict) -> bool
-    ensures { result ≡ is_refusal verdict.now }
-{
-    !matches!(verdict, Verdict::Pass(_))
-}
-
 /// Whether a node refused the segment.
 pub(crate) fn is_refused(line: &CheckLine) -> bool
     ensures { result ≡ says_refused line.now }
 {
-    matches!(line, CheckLine::Verdict(verdict, _) if is_refusal(verdict))
+    matches!(line, CheckLine::Verdict(Err(_), _))
 }
 
 /// Whether a node knows no context for the segment.
 pub(crate) fn is_unknown(line: &CheckLine) -> bool
     ensures { result ≡ says_unknown line.now }
 {
-    matches!(line, CheckLine::Verdict(Verdict::NoContext, _))
+    matches!(line, CheckLine::Verdict(Err(Refusal::NoContext), _))
 }
 
 fn is_bad_mac(line: &CheckLine) -> bool
     ensures { result ≡ says_bad_mac line.now }
 {
-    matches!(line, CheckLine::Verdict(Verdict::BadMac, _))
+    matches!(line, CheckLine::Verdict(Err(Refusal::BadMac), _))
 }
 
 fn is_range(line: &CheckLine) -> bool
     ensures { result ≡ says_range line.now }
 {
-    matches!(line, CheckLine::Verdict(Verdict::Range, _))
+    matches!(line, CheckLine::Verdict(Err(Refusal::Range), _))
 }
 
 /// Whether the segment may pass over more laps: its MAC is wrong, or its number out of range.
@@ -52,12 +46,12 @@ pub(crate) fn is_searched(line: &CheckLine) -> bool
     is_bad_mac(line) || is_range(line)
 }
 
-fn verdict_anew(verdict: Verdict) -> Verdict
-    ensures { result ≡ verdict_anew verdict }
+fn refusal_anew(why: Refusal) -> Refusal
+    ensures { result ≡ refusal_anew why }
 {
-    match verdict {
-        Verdict::BadMac => Verdict::NoContext,
-        Verdict::Range => Verdict::NoContext,
+    match why {
+        Refusal::BadMac => Refusal::NoContext,
+        Refusal::Range => Refusal::NoContext,
         other => other,
     }
 }
@@ -71,8 +65,8 @@ pub(crate) fn told_anew(anew: bool, line: CheckLine) -> CheckLine
         return line;
     }
     match line {
-        CheckLine::Verdict(verdict, checksum) => {
-            CheckLine::Verdict(verdict_anew(verdict), checksum)
+        CheckLine::Verdict(Err(why), checksum) => {
+            CheckLine::Verdict(Err(refusal_anew(why)), checksum)
         }
         other => other,
     }

@@ -2,7 +2,7 @@
 ghost use Rattle.std.specs.Prelude.{◌≡◌};
 ghost use Rattle.capture_listener.specs.Lines.{by_line, by_seen_line, by_unconfirmed, by_verdict};
 
-use book_endpoint::Verdict;
+use book_endpoint::{Passed, Refusal};
 use book_sessions::{SeenPass, SegmentOutcome};
 use capture_check::CheckLine;
 
@@ -13,37 +13,22 @@ pub struct HeardSegment {
     pub pass: Option<SeenPass>,
 }
 
-fn by_verdict(verdict: &Verdict) -> SegmentOutcome
+fn by_verdict(verdict: &Result<Passed, Refusal>) -> SegmentOutcome
     ensures { result ≡ by_verdict verdict.now }
 {
     match verdict {
-        Verdict::Pass(_) => SegmentOutcome::Verified,
-        Verdict::NoAo => SegmentOutcome::Refused(Verdict::NoAo),
-        Verdict::TwoAo => SegmentOutcome::Refused(Verdict::TwoAo),
-        Verdict::WithMd5 => SegmentOutcome::Refused(Verdict::WithMd5),
-        Verdict::NoTuple => SegmentOutcome::Refused(Verdict::NoTuple),
-        Verdict::Expired => SegmentOutcome::Refused(Verdict::Expired),
-        Verdict::MacLength => SegmentOutcome::Refused(Verdict::MacLength),
-        Verdict::NoContext => SegmentOutcome::Refused(Verdict::NoContext),
-        Verdict::Range => SegmentOutcome::Refused(Verdict::Range),
-        Verdict::BadMac => SegmentOutcome::Refused(Verdict::BadMac),
+        Ok(_) => SegmentOutcome::Verified,
+        Err(why) => SegmentOutcome::Refused(*why),
     }
 }
 
-fn by_unconfirmed(verdict: &Verdict) -> SegmentOutcome
+fn by_unconfirmed(verdict: &Result<Passed, Refusal>) -> SegmentOutcome
     ensures { result ≡ by_unconfirmed verdict.now }
 {
     match verdict {
-        Verdict::Pass(_) => SegmentOutcome::Unconfirmed,
-        Verdict::NoAo => SegmentOutcome::UnconfirmedRefused(Verdict::NoAo),
-        Verdict::TwoAo => SegmentOutcome::UnconfirmedRefused(Verdict::TwoAo),
-        Verdict::WithMd5 => SegmentOutcome::UnconfirmedRefused(Verdict::WithMd5),
-        Verdict::NoTuple => SegmentOutcome::UnconfirmedRefused(Verdict::NoTuple),
-        Verdict::Expired => SegmentOutcome::UnconfirmedRefused(Verdict::Expired),
-        Verdict::MacLength => SegmentOutcome::UnconfirmedRefused(Verdict::MacLength),
-        Verdict::NoContext => SegmentOutcome::Refused(Verdict::NoContext),
-        Verdict::Range => SegmentOutcome::UnconfirmedRefused(Verdict::Range),
-        Verdict::BadMac => SegmentOutcome::UnconfirmedRefused(Verdict::BadMac),
+        Ok(_) => SegmentOutcome::Unconfirmed,
+        Err(Refusal::NoContext) => SegmentOutcome::Refused(Refusal::NoContext),
+        Err(why) => SegmentOutcome::UnconfirmedRefused(*why),
     }
 }
 

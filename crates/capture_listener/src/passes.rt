@@ -11,7 +11,7 @@ ghost use Rattle.capture_listener.specs.Lines.{pass_by_line, pass_by_verdict};
 ghost use Rattle.capture_listener.specs.Passes.{isns_known};
 
 use ao_base::is_same_socket;
-use book_endpoint::{Passed, Verdict};
+use book_endpoint::{Passed, Refusal};
 use book_sessions::{FlowIsns, SeenPass};
 use capture_check::{CheckLine, Connections, KnownConnection};
 use tcp_segment::{Datagram, Flag};
@@ -73,12 +73,12 @@ fn after(first: u64, length: u64) -> u64
     first + length
 }
 
-fn pass_by_verdict(verdict: &Verdict) -> Option<Passed>
+fn pass_by_verdict(verdict: &Result<Passed, Refusal>) -> Option<Passed>
     ensures { result ≡ pass_by_verdict verdict.now }
 {
     match verdict {
-        Verdict::Pass(passed) => Some(*passed),
-        _ => None,
+        Ok(passed) => Some(*passed),
+        Err(_) => None,
     }
 }
 

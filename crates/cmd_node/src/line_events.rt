@@ -15,7 +15,7 @@ use book_keys::LATEST;
 use book_lines::LineKind;
 use book_pcap::LONGEST_DATAGRAM;
 use std::alloc::Global;
-use text_lines::{LineWords, Refusal};
+use text_lines::{LineWords, WordProblem};
 
 /// The sockets of a connection: the port at the node, and the other end's address and port.
 fn pair(own: &Address, words: &mut LineWords) -> Result<Pair, LineKind>
@@ -73,7 +73,7 @@ fn start(own: &Address, words: &mut LineWords) -> Result<NodeEvent, LineKind>
     Ok(NodeEvent::On(pair, Act::Start(isn, peer)))
 }
 
-fn give(alloc: Global, own: &Address, words: &mut LineWords) -> Result<NodeEvent, Refusal>
+fn give(alloc: Global, own: &Address, words: &mut LineWords) -> Result<NodeEvent, WordProblem>
     ensures { Tells result (act_give own.now words.old) }
 {
     let pair = pair(own, words)?;
@@ -99,7 +99,7 @@ fn clock(words: &mut LineWords) -> Result<NodeEvent, LineKind>
     Ok(NodeEvent::Clock(seconds))
 }
 
-fn inject(alloc: Global, words: &mut LineWords) -> Result<NodeEvent, Refusal>
+fn inject(alloc: Global, words: &mut LineWords) -> Result<NodeEvent, WordProblem>
     ensures { Tells result (node_inject_of words.old) }
 {
     let bytes = words.sized_hex(alloc, 1, LONGEST_DATAGRAM)?;
@@ -114,7 +114,7 @@ fn named(
     own: &Address,
     name: Name,
     words: &mut LineWords,
-) -> Result<NodeEvent, Refusal>
+) -> Result<NodeEvent, WordProblem>
     ensures { Tells result (node_event_named own.now (name_text name) words.old) }
 {
     match name {
@@ -139,7 +139,7 @@ pub(crate) fn read_event(
     alloc: Global,
     own: &Address,
     words: &mut LineWords,
-) -> Result<NodeEvent, Refusal>
+) -> Result<NodeEvent, WordProblem>
     ensures { Tells result (node_event_of own.now words.old) }
 {
     let name = Name::read(words.word()?).ok_or(LineKind::Word)?;

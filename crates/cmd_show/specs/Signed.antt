@@ -3,8 +3,8 @@ use Rattle.std.specs.Prelude.{◌≡◌, ℕ, List, Some, Result, Ok, Err}
 use Rattle.book_base.specs.declared.algorithm.Algorithm.{Algorithm}
 use Rattle.book_segments.specs.Options.{Ao, One, find_ao}
 use Rattle.book_segments.specs.Segments.{Segment}
-use Rattle.text_lines.specs.declared.refusal.Refusal.{Refusal}
-use Rattle.text_lines.specs.declared.refusal.Refusal.TheVariants as refusal
+use Rattle.text_lines.specs.declared.word_problem.WordProblem.{WordProblem}
+use Rattle.text_lines.specs.declared.word_problem.WordProblem.TheVariants as refusal
 use Rattle.cmd_show.specs.declared.signed.SignedDatagram.{SignedDatagram}
 use Rattle.book_cmd_show.specs.Vectors.{MacMaking, Vector, mac_of_signed, signed_of}
 
@@ -20,7 +20,7 @@ abbrev pub IsMade : List ℕ → MacMaking → Segment → List ℕ → Type 0
 IsMade master m d bytes = (ao : Ao) → find_ao d.area ≡ One ao → bytes ≡ mac_of_signed master m (record { segment = d; ao = ao })
 
 -- the vector that was made of a datagram
-abbrev pub IsMadeVector : List ℕ → MacMaking → SignedDatagram → Result Vector Refusal → Type 0
+abbrev pub IsMadeVector : List ℕ → MacMaking → SignedDatagram → Result Vector WordProblem → Type 0
 IsMadeVector master m s (Ok v) = IsMade master m s.datagram v.computed × (v.expected ≡ s.mac.now)
 IsMadeVector master m s (Err refusal.Memory) = Unit {0}
 IsMadeVector master m s (Err (refusal.Kind kind)) = ⊥

@@ -15,10 +15,10 @@ use book_base::Bytes;
 use book_lines::TextFault;
 use command_report::{Report, Stop};
 use std::alloc::{AllocError, Global};
-use text_lines::{LineWords, Refusal, Saying, SayingLines, count_lines, push_newline};
+use text_lines::{LineWords, Saying, SayingLines, WordProblem, count_lines, push_newline};
 
 #[tactic(auto, unfolding(book_cmd_show::specs::Show::bytes_of_line))]
-fn line_bytes(alloc: Global, words: &mut LineWords) -> Result<Bytes, Refusal>
+fn line_bytes(alloc: Global, words: &mut LineWords) -> Result<Bytes, WordProblem>
     ensures { Tells result (bytes_of_line words.old) }
 {
     let bytes = words.hex(alloc)?;

@@ -20,7 +20,7 @@ use book_lines::LineKind;
 use hmac_sha1::{HmacSha1, HmacSha256};
 use std::alloc::Global;
 use std::marker::Model;
-use text_lines::{LineWords, Refusal};
+use text_lines::{LineWords, WordProblem};
 
 /// A test vector: what is computed, and what the line says.
 #[derive(Drop)]
@@ -38,7 +38,7 @@ impl Model for Vector {
 }
 
 impl Vector {
-    fn new(alloc: Global, computed: &[u8], expected: Bytes) -> Result<Vector, Refusal>
+    fn new(alloc: Global, computed: &[u8], expected: Bytes) -> Result<Vector, WordProblem>
         ensures { Tells result (Ok (record { computed = computed.now; expected = expected })) }
     {
         let computed = Bytes::from_vec(Vec::from_slice(alloc, computed)?);
@@ -64,7 +64,7 @@ impl Model for Keyed {
 
 impl Keyed {
     #[tactic(auto, unfolding(book_cmd_show::specs::Vectors::keyed_of))]
-    fn read(alloc: Global, words: &mut LineWords) -> Result<Keyed, Refusal>
+    fn read(alloc: Global, words: &mut LineWords) -> Result<Keyed, WordProblem>
         ensures { Tells result (keyed_of words.old) }
     {
         let key = words.hex(alloc)?;
@@ -109,7 +109,7 @@ fn aes_of(key: &[u8; 16], block: &[u8; 16]) -> [u8; 16]
     Aes128::new(key).encrypt(block)
 }
 
-fn hmac_vector(alloc: Global, words: &mut LineWords) -> Result<Vector, Refusal>
+fn hmac_vector(alloc: Global, words: &mut LineWords) -> Result<Vector, WordProblem>
     ensures { Tells result (keyed_vector (hmac sha1) words.old) }
 {
     let keyed = Keyed::read(alloc, words)?;
@@ -117,7 +117,7 @@ fn hmac_vector(alloc: Global, words: &mut LineWords) -> Result<Vector, Refusal>
     Vector::new(alloc, &computed, keyed.expected)
 }
 
-fn hmac256_vector(alloc: Global, words: &mut LineWords) -> Result<Vector, Refusal>
+fn hmac256_vector(alloc: Global, words: &mut LineWords) -> Result<Vector, WordProblem>
     ensures { Tells result (keyed_vector (hmac sha256) words.old) }
 {
     let keyed = Keyed::read(alloc, words)?;
@@ -125,7 +125,7 @@ fn hmac256_vector(alloc: Global, words: &mut LineWords) -> Result<Vector, Refusa
     Vector::new(alloc, &computed, keyed.expected)
 }
 
-fn prf_vector(alloc: Global, words: &mut LineWords) -> Result<Vector, Refusal>
+fn prf_vector(alloc: Global, words: &mut LineWords) -> Result<Vector, WordProblem>
     ensures { Tells result (keyed_vector prf_of words.old) }
 {
     let keyed = Keyed::read(alloc, words)?;
@@ -134,7 +134,7 @@ fn prf_vector(alloc: Global, words: &mut LineWords) -> Result<Vector, Refusal>
 }
 
 #[tactic(auto, unfolding(book_cmd_show::specs::Vectors::cmac_vector))]
-fn cmac_vector(alloc: Global, words: &mut LineWords) -> Result<Vector, Refusal>
+fn cmac_vector(alloc: Global, words: &mut LineWords) -> Result<Vector, WordProblem>
     ensures { Tells result (cmac_vector words.old) }
 {
     let key = block(alloc, words)?;
@@ -145,7 +145,7 @@ fn cmac_vector(alloc: Global, words: &mut LineWords) -> Result<Vector, Refusal>
 }
 
 #[tactic(auto, unfolding(book_cmd_show::specs::Vectors::aes_vector))]
-fn aes_vector(alloc: Global, words: &mut LineWords) -> Result<Vector, Refusal>
+fn aes_vector(alloc: Global, words: &mut LineWords) -> Result<Vector, WordProblem>
     ensures { Tells result (aes_vector words.old) }
 {
     let key = block(alloc, words)?;
@@ -156,7 +156,7 @@ fn aes_vector(alloc: Global, words: &mut LineWords) -> Result<Vector, Refusal>
 }
 
 #[tactic(auto, unfolding(book_cmd_show::specs::Vectors::kdf_vector))]
-fn kdf_vector(alloc: Global, words: &mut LineWords) -> Result<Vector, Refusal>
+fn kdf_vector(alloc: Global, words: &mut LineWords) -> Result<Vector, WordProblem>
     ensures { Tells result (kdf_vector words.old) }
 {
     let alg = words.algorithm()?;
@@ -174,7 +174,7 @@ fn vector_made(
     master: &[u8],
     making: &Making,
     signed: &SignedDatagram<'_>,
-) -> Result<Vector, Refusal>
+) -> Result<Vector, WordProblem>
     requires one { HasAo signed.now.datagram }
     ensures { IsMadeVector master.now making.now signed.now result }
 {
@@ -201,7 +201,7 @@ fn making(words: &mut LineWords, algorithm: Algorithm) -> Result<Making, LineKin
 }
 
 #[tactic(auto, unfolding(book_cmd_show::specs::Vectors::segment_vector))]
-fn segment_vector(alloc: Global, words: &mut LineWords) -> Result<Vector, Refusal>
+fn segment_vector(alloc: Global, words: &mut LineWords) -> Result<Vector, WordProblem>
     ensures { Tells result (segment_vector words.old) }
 {
     let algorithm = words.algorithm()?;
@@ -209,14 +209,14 @@ fn segment_vector(alloc: Global, words: &mut LineWords) -> Result<Vector, Refusa
     let making = making(words, algorithm)?;
     let bytes = words.hex(alloc)?;
     let Some(signed) = signed(algorithm, bytes.as_slice()) else {
-        return Err(Refusal::Kind(LineKind::Range));
+        return Err(WordProblem::Kind(LineKind::Range));
     };
     words.nothing()?;
     vector_made(alloc, master.as_slice(), &making, &signed)
 }
 
 #[tactic(auto, unfolding(book_cmd_show::specs::Vectors::vector_named))]
-fn vector_named(alloc: Global, name: &[u8], words: &mut LineWords) -> Result<Vector, Refusal>
+fn vector_named(alloc: Global, name: &[u8], words: &mut LineWords) -> Result<Vector, WordProblem>
     ensures { Tells result (vector_named name.now words.old) }
 {
     if name == b"hmac".as_slice() {
@@ -234,13 +234,13 @@ fn vector_named(alloc: Global, name: &[u8], words: &mut LineWords) -> Result<Vec
     } else if name == b"segment".as_slice() {
         segment_vector(alloc, words)
     } else {
-        Err(Refusal::Kind(LineKind::Word))
+        Err(WordProblem::Kind(LineKind::Word))
     }
 }
 
 /// The vector that a line says.
 #[tactic(auto, unfolding(book_cmd_show::specs::Vectors::vector_of))]
-pub(crate) fn read_vector(alloc: Global, words: &mut LineWords) -> Result<Vector, Refusal>
+pub(crate) fn read_vector(alloc: Global, words: &mut LineWords) -> Result<Vector, WordProblem>
     ensures { Tells result (vector_of words.old) }
 {
     let name = words.word()?;

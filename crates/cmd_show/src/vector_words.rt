@@ -8,10 +8,10 @@ use crate::array::array_of;
 use book_base::Bytes;
 use book_lines::LineKind;
 use std::alloc::Global;
-use text_lines::{LineWords, Refusal};
+use text_lines::{LineWords, WordProblem};
 
 /// A block of AES in hexadecimal.
-pub(crate) fn block(alloc: Global, words: &mut LineWords) -> Result<[u8; 16], Refusal>
+pub(crate) fn block(alloc: Global, words: &mut LineWords) -> Result<[u8; 16], WordProblem>
     ensures { Tells (gives result words.new) (sized_hex_in 16 16 words.old) }
 {
     let bytes = words.sized_hex(alloc, 16, 16)?;
@@ -20,7 +20,7 @@ pub(crate) fn block(alloc: Global, words: &mut LineWords) -> Result<[u8; 16], Re
 
 /// A message in hexadecimal, or `-` for the empty one.
 #[tactic(auto, unfolding(book_cmd_show::specs::VectorWords::message_in, book_lines::specs::Words::word_in, book_lines::specs::Words::hex_in))]
-pub(crate) fn message(alloc: Global, words: &mut LineWords) -> Result<Bytes, Refusal>
+pub(crate) fn message(alloc: Global, words: &mut LineWords) -> Result<Bytes, WordProblem>
     ensures { Tells (gives result words.new) (message_in words.old) }
 {
     let mut ahead = words.ahead();
@@ -33,7 +33,7 @@ pub(crate) fn message(alloc: Global, words: &mut LineWords) -> Result<Bytes, Ref
 
 /// The bytes of a context in hexadecimal.
 #[tactic(auto, unfolding(book_cmd_show::specs::VectorWords::context_in))]
-pub(crate) fn context(alloc: Global, words: &mut LineWords) -> Result<Bytes, Refusal>
+pub(crate) fn context(alloc: Global, words: &mut LineWords) -> Result<Bytes, WordProblem>
     ensures read { Tells (gives result words.new) (context_in words.old) }
     ensures length { IfOk result (λ bytes. (length bytes ≡ 20) ⊎ (length bytes ≡ 44)) }
 {
@@ -42,7 +42,7 @@ pub(crate) fn context(alloc: Global, words: &mut LineWords) -> Result<Bytes, Ref
     if length == 20 || length == 44 {
         Ok(bytes)
     } else {
-        Err(Refusal::Kind(LineKind::Range))
+        Err(WordProblem::Kind(LineKind::Range))
     }
 }
 

@@ -2,14 +2,14 @@
 use Rattle.std.proofs.Common.{◌≡◌, ℕ, List, ◌∷◌, ◌++◌, Result, Ok, Err, OnOk, sym, ap, ◌∙◌, append_assoc}
 use Rattle.std.specs.Prelude.{codes}
 use Rattle.std.proofs.lemmas.List.{append-nil}
-use Rattle.book_endpoint.specs.declared.verdict.Verdict.{Verdict}
+use Rattle.book_endpoint.specs.declared.refusal.Refusal.{Refusal}
 use Rattle.book_lines.specs.Texts.{spaced}
 use Rattle.book_link.specs.Reports.{verdict_text}
 use Rattle.book_sessions.specs.declared.outcome.SegmentOutcome.{SegmentOutcome}
 use Rattle.book_sessions.specs.declared.outcome.SegmentOutcome.TheVariants as outcome
 use Rattle.book_draw_session.specs.Ladders.{said_texts}
 
-pub puts_unconfirmed : {E : Type 0} (result : Result (Unit {0}) E) (before after : List ℕ) (said : SegmentOutcome) (why : Verdict) → said ≡ outcome.UnconfirmedRefused why
+pub puts_unconfirmed : {E : Type 0} (result : Result (Unit {0}) E) (before after : List ℕ) (said : SegmentOutcome) (why : Refusal) → said ≡ outcome.UnconfirmedRefused why
     → OnOk result (after ≡ before ++ 32 ∷ codes "unconfirmed-" ++ verdict_text why) → OnOk result (after ≡ before ++ spaced (said_texts said))
 puts_unconfirmed (Ok done) before after said why is put =
     put

@@ -11,7 +11,7 @@ ghost use Rattle.book_draw_session.specs.Ladders.{rung_label, rung_stroke, sessi
 use ao_base::push_decimal;
 use book_base::{End, Socket};
 use book_draw_session::{SessionEnds, SessionRung};
-use book_endpoint::Verdict;
+use book_endpoint::Refusal;
 use book_sessions::{KeyIds, SegmentOutcome};
 use both_ends::other;
 use draw_ladder::{push_arrow, push_names, push_times};
@@ -105,7 +105,7 @@ pub(crate) fn push_label(out: &mut Vec<u8>, rung: &SessionRung) -> Result<(), Al
 }
 
 // Puts why a segment is refused under numbers that were only seen behind `out`.
-fn push_unconfirmed(out: &mut Vec<u8>, why: Verdict) -> Result<(), AllocError>
+fn push_unconfirmed(out: &mut Vec<u8>, why: Refusal) -> Result<(), AllocError>
     ensures { OnOk result (out.new.items ≡ out.old.items ++ 32 ∷ codes "unconfirmed-" ++ verdict_text why) }
 {
     push_text(out, b"unconfirmed-")?;

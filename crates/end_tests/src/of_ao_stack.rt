@@ -7,7 +7,7 @@ use crate::peers::{
 };
 use crate::way::{Way, later};
 use ao_stack::{Heard, Stack};
-use book_endpoint::Verdict;
+use book_endpoint::Refusal;
 use std::alloc::{AllocError, Global};
 use std::test::Fail;
 use tcp_endpoint::GiveAnswer;
@@ -242,7 +242,7 @@ fn is_refused(stack: &mut Stack, room: &[u8; 1500], length: usize) -> bool {
         None => false,
         Some(bytes) => matches!(
             stack.input(later(BEGIN, 0), bytes),
-            Heard::Refused(Verdict::BadMac)
+            Heard::Refused(Refusal::BadMac)
         ),
     }
 }

@@ -8,7 +8,7 @@ mod passes;
 mod refusals;
 
 use ao_base::Steps;
-use ao_check::{Association, Verdict};
+use ao_check::{Association, Passed, Refusal};
 use book_base::{Address, Algorithm, Bytes, Pair, Socket};
 use key_table::{AddRefusal, Direction, Lifetime, NewRow, Table};
 use std::alloc::{AllocError, Global};
@@ -94,7 +94,7 @@ fn judged<L: Ledger>(
     now: u64,
     expected: Option<u64>,
     bytes: &[u8],
-) -> Result<Option<Verdict>, AllocError>
+) -> Result<Option<Result<Passed, Refusal>>, AllocError>
     requires name { blank.name ≡ L.name }
     requires parts { blank.parts ≡ L.parts }
     requires part { 0 < blank.parts }
@@ -121,6 +121,6 @@ fn verdict(
     now: u64,
     expected: Option<u64>,
     bytes: &[u8],
-) -> Result<Option<Verdict>, AllocError> {
+) -> Result<Option<Result<Passed, Refusal>>, AllocError> {
     judged::<Brand>(alloc, Blank::new(1), table, pair, now, expected, bytes)
 }

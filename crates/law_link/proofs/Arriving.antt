@@ -22,7 +22,7 @@ use Rattle.book_keys.specs.Coordination.{follow}
 use Rattle.book_endpoint.specs.declared.phase.Phase.{Phase}
 use Rattle.book_endpoint.specs.declared.phase.Phase.TheVariants.{Listen, SynSent}
 use Rattle.book_endpoint.specs.States.{EndState, is_closed}
-use Rattle.book_endpoint.specs.declared.verdict.Verdict.TheVariants.{NoTuple, Expired, MacLength, NoContext, Range, BadMac}
+use Rattle.book_endpoint.specs.declared.refusal.Refusal.TheVariants.{NoTuple, Expired, MacLength, NoContext, Range, BadMac}
 use Rattle.book_endpoint.specs.Verdicts.{Finding, Judgement, mac_of, found_with, segment_number}
 use Rattle.book_endpoint.proofs.JudgeSteps.{judge_number, judge_context, judge_row, judge_ao, judge_by_steps}
 use Rattle.book_endpoint.specs.declared.arrival.Arrival.{Arrival}

@@ -16,7 +16,7 @@ use Rattle.book_endpoint.proofs.JudgeSteps.{judge_ao, judge_by_steps, judge_cont
 use Rattle.book_endpoint.specs.declared.arrival.Arrival.TheVariants.{Foreign, Checksum, Closed as AtClosed, Unexpected, Challenge, NoAck, BadAck, Taken}
 use Rattle.book_endpoint.specs.declared.phase.Phase.{Phase}
 use Rattle.book_endpoint.specs.declared.phase.Phase.TheVariants.{Listen, SynSent, SynReceived, Established, TimeWait}
-use Rattle.book_endpoint.specs.declared.verdict.Verdict.TheVariants.{BadMac, Expired, MacLength, NoContext, NoTuple, Range}
+use Rattle.book_endpoint.specs.declared.refusal.Refusal.TheVariants.{BadMac, Expired, MacLength, NoContext, NoTuple, Range}
 use Rattle.book_endpoint.specs.States.{EndState, window, hears, is_closed}
 use Rattle.book_endpoint.specs.Verdicts.{Judgement, found_with, mac_of, segment_number}
 use Rattle.book_endpoint.specs.Arrivals.{Arrived, arrive, from_peer, heard, judged_by, number_expected, numbers_known, syn_ack_alone, syn_alone, unmoved}

@@ -13,8 +13,8 @@ use Rattle.book_keys.specs.Rows.{Row, Table, has_address}
 use Rattle.book_base.specs.Algorithms.{mac_length_of}
 use Rattle.std.specs.Prelude.{◌==◌}
 use Rattle.book_endpoint.specs.Verdicts.{Finding, Judgement, Known, found_with, mac_of, segment_number}
-use Rattle.book_endpoint.specs.declared.verdict.Verdict.{Verdict}
-use Rattle.book_endpoint.specs.declared.verdict.Verdict.TheVariants.{Pass, NoAo, TwoAo, WithMd5, NoTuple, Expired, MacLength, NoContext, Range, BadMac}
+use Rattle.book_endpoint.specs.declared.refusal.Refusal.{Refusal}
+use Rattle.book_endpoint.specs.declared.refusal.Refusal.TheVariants.{NoAo, TwoAo, WithMd5, NoTuple, Expired, MacLength, NoContext, Range, BadMac}
 use Rattle.book_endpoint.specs.States.{number_limit}
 use Rattle.book_endpoint.proofs.JudgeSteps.{judge_by_steps, judge_ao, judge_context, judge_mac, judge_number, judge_row}
 use Rattle.book_cmd_show.specs.DatagramTexts.{checksum_in}
@@ -30,7 +30,7 @@ use Rattle.law_sessions.specs.Anew.{AsUnheld, IsOpenedAnew, IsUnhidden, OfOlder,
 -- ---- one verdict
 
 -- a refusal that depends on the numbers of the connection
-abbrev of_numbers : Verdict → Bool
+abbrev of_numbers : Refusal → Bool
 of_numbers NoContext = true
 of_numbers Range = true
 of_numbers BadMac = true
@@ -39,8 +39,8 @@ of_numbers _ = false
 -- the verdict by an older connection, and the one without any
 data Fit (one other : Judgement) : Type 0 where
   Passed : (p : Finding) → one ≡ Ok p → Fit one other
-  Unsaid : (why : Verdict) → one ≡ Err why → of_numbers why ≡ true → other ≡ Err NoContext → Fit one other
-  Same : (why : Verdict) → one ≡ Err why → other ≡ Err why → of_numbers why ≡ false → Fit one other
+  Unsaid : (why : Refusal) → one ≡ Err why → of_numbers why ≡ true → other ≡ Err NoContext → Fit one other
+  Same : (why : Refusal) → one ≡ Err why → other ≡ Err why → of_numbers why ≡ false → Fit one other
 
 mac_at : (b : Bool) (p : Finding) (other : Judgement) → other ≡ Err NoContext → Fit (if b then Ok p else Err BadMac) other
 mac_at true p other e = Passed p refl
@@ -117,11 +117,10 @@ data FitSaid (d : Segment) (w other : Saying) : Type 0 where
   UnsaidSaid : is_unknown (told_anew true w) ≡ true → is_unknown other ≡ true → FitSaid d w other
   SameSaid : w ≡ other → told_anew true w ≡ w → is_searched d w ≡ false → is_unknown w ≡ false → FitSaid d w other
 
-abbrev refused : Verdict → Segment → Saying
+abbrev refused : Refusal → Segment → Saying
 refused why d = Judged (Err why) (checksum_in d)
 
-unsaid : (why : Verdict) (d : Segment) → of_numbers why ≡ true → is_unknown (told_anew true (refused why d)) ≡ true
-unsaid (Pass p) d e = absurd (cc)
+unsaid : (why : Refusal) (d : Segment) → of_numbers why ≡ true → is_unknown (told_anew true (refused why d)) ≡ true
 unsaid NoAo d e = absurd (cc)
 unsaid TwoAo d e = absurd (cc)
 unsaid WithMd5 d e = absurd (cc)
@@ -132,8 +131,7 @@ unsaid NoContext d e = refl
 unsaid Range d e = refl
 unsaid BadMac d e = refl
 
-same_said : (why : Verdict) (d : Segment) → of_numbers why ≡ false → FitSaid d (refused why d) (refused why d)
-same_said (Pass p) d e = SameSaid refl refl refl refl
+same_said : (why : Refusal) (d : Segment) → of_numbers why ≡ false → FitSaid d (refused why d) (refused why d)
 same_said NoAo d e = SameSaid refl refl refl refl
 same_said TwoAo d e = SameSaid refl refl refl refl
 same_said WithMd5 d e = SameSaid refl refl refl refl
@@ -200,7 +198,6 @@ unknown_unsearched d (Unreadable fault) e = refl
 unknown_unsearched d UnknownNode e = refl
 unknown_unsearched d (TooManyConnections checksum) e = refl
 unknown_unsearched d (Judged (Ok p) checksum) e = refl
-unknown_unsearched d (Judged (Err (Pass p)) checksum) e = refl
 unknown_unsearched d (Judged (Err NoAo) checksum) e = refl
 unknown_unsearched d (Judged (Err TwoAo) checksum) e = refl
 unknown_unsearched d (Judged (Err WithMd5) checksum) e = refl

@@ -17,7 +17,7 @@ use Rattle.book_keys.specs.declared.direction.Direction.TheVariants.{Both}
 use Rattle.book_keys.specs.Rows.{Row}
 use Rattle.book_keys.specs.Coordination.{choose, follow}
 use Rattle.book_endpoint.specs.Verdicts.{judge}
-use Rattle.book_endpoint.specs.declared.verdict.Verdict.TheVariants.{NoAo}
+use Rattle.book_endpoint.specs.declared.refusal.Refusal.TheVariants.{NoAo}
 use Rattle.book_shim.specs.declared.kept.Kept.{Kept}
 use Rattle.book_shim.specs.declared.refusal.Unsent.{Unsent}
 use Rattle.book_shim.specs.declared.refusal.Unsent.TheVariants.{Unkeyed, NoContext}

@@ -22,7 +22,7 @@ use Rattle.book_keys.specs.Lifetimes.{contains}
 use Rattle.book_keys.specs.Rows.{Row, matches, receives}
 use Rattle.book_keys.specs.Choices.{Numbered, accept_row, acceptable_as, lowest}
 use Rattle.book_keys.specs.Coordination.{Sending}
-use Rattle.book_endpoint.specs.declared.verdict.Verdict.TheVariants.{MacLength, Range, NoContext}
+use Rattle.book_endpoint.specs.declared.refusal.Refusal.TheVariants.{MacLength, Range, NoContext}
 use Rattle.book_endpoint.specs.States.{number_limit}
 use Rattle.book_endpoint.specs.Verdicts.{Finding, Judgement, Known, judge, found_with, mac_of, segment_number}
 use Rattle.book_endpoint.proofs.JudgeSteps.{judge_mac, judge_number, judge_context, judge_row, judge_ao, judge_by_steps}

@@ -18,7 +18,7 @@ use Rattle.book_macs.specs.Keys.{traffic_key, mac}
 use Rattle.book_macs.proofs.LengthLaws.{length-mac, length-traffic_key}
 use Rattle.book_keys.specs.Rows.{Row}
 use Rattle.book_keys.specs.Coordination.{Sending}
-use Rattle.book_endpoint.specs.declared.verdict.Verdict.TheVariants.{NoContext}
+use Rattle.book_endpoint.specs.declared.refusal.Refusal.TheVariants.{NoContext}
 use Rattle.book_endpoint.specs.States.{number_limit}
 use Rattle.book_endpoint.specs.Verdicts.{Finding, Judgement, judge, found_with, segment_number}
 use Rattle.book_endpoint.specs.Emissions.{ao_length, written_ao, no_mac}

@@ -15,7 +15,7 @@ use Rattle.book_macs.proofs.LengthLaws.{twelve_or_sixteen}
 use Rattle.book_segments.proofs.Fields.{le_is}
 use Rattle.book_macs.specs.Contexts.{context_of}
 use Rattle.book_keys.specs.Coordination.{Sending, choose}
-use Rattle.book_endpoint.specs.declared.verdict.Verdict.TheVariants.{NoContext as Nothing}
+use Rattle.book_endpoint.specs.declared.refusal.Refusal.TheVariants.{NoContext as Nothing}
 use Rattle.book_endpoint.specs.States.{number_limit}
 use Rattle.book_endpoint.specs.Verdicts.{Finding, Judgement, judge, segment_number}
 use Rattle.book_endpoint.specs.Emissions.{ao_length, written_ao, no_mac}

@@ -5,7 +5,7 @@ use Rattle.book_base.specs.Results.{◌>>=◌}
 use Rattle.book_segments.specs.Segments.{Segment, Reading, Bad as Unread, Read, reading, has, good, SYN, ACK, RST, segment_length}
 use Rattle.book_keys.specs.Rows.{Row}
 use Rattle.book_endpoint.specs.Arrivals.{from_peer}
-use Rattle.book_endpoint.specs.declared.verdict.Verdict.TheVariants.{NoContext as Nothing}
+use Rattle.book_endpoint.specs.declared.refusal.Refusal.TheVariants.{NoContext as Nothing}
 use Rattle.book_endpoint.specs.Verdicts.{Finding, Judgement, judge, segment_number}
 use Rattle.book_shim.specs.declared.kept.Isns.{Isns}
 use Rattle.book_shim.specs.declared.kept.Kept.{Kept}

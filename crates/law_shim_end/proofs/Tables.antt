@@ -23,8 +23,8 @@ use Rattle.book_keys.specs.Rows.{Row, matches, sends, sendable, receives, accept
 use Rattle.book_keys.proofs.GapLaws.{gap_exactly, lint_aligned}
 use Rattle.book_keys.proofs.PlanLaws.{same_key_tells, meets}
 use Rattle.book_keys.proofs.SendingLaws.{choose_none, chosen, Chosen}
-use Rattle.book_endpoint.specs.declared.verdict.Verdict.{Verdict}
-use Rattle.book_endpoint.specs.declared.verdict.Verdict.TheVariants.{Pass, NoAo, TwoAo, WithMd5, NoContext as Nothing, MacLength, Range as Far, BadMac, Expired, NoTuple}
+use Rattle.book_endpoint.specs.declared.refusal.Refusal.{Refusal}
+use Rattle.book_endpoint.specs.declared.refusal.Refusal.TheVariants.{NoAo, TwoAo, WithMd5, NoContext as Nothing, MacLength, Range as Far, BadMac, Expired, NoTuple}
 use Rattle.book_endpoint.specs.States.{number_limit}
 use Rattle.book_endpoint.specs.Verdicts.{Judgement, Known, judge, require, segment_number, mac_of, found_with}
 use Rattle.book_endpoint.specs.Emissions.{ao_length, written_ao, no_mac}
@@ -89,11 +89,11 @@ lacks (Err NoTuple) = true
 lacks (Err Expired) = true
 lacks j = false
 
-after_require : (b : Bool) (why : Verdict) (f : Unit {0} → Judgement) → lacks (Err why) ≡ false → ((u : Unit {0}) → lacks (f u) ≡ false) → lacks (require b why >>= f) ≡ false
+after_require : (b : Bool) (why : Refusal) (f : Unit {0} → Judgement) → lacks (Err why) ≡ false → ((u : Unit {0}) → lacks (f u) ≡ false) → lacks (require b why >>= f) ≡ false
 after_require true why f e more = more tt
 after_require false why f e more = e
 
-after_fault : {A : Type 0} (o : Option A) (why : Verdict) (f : A → Judgement) → lacks (Err why) ≡ false → ((x : A) → lacks (f x) ≡ false) → lacks (or_fault o why >>= f) ≡ false
+after_fault : {A : Type 0} (o : Option A) (why : Refusal) (f : A → Judgement) → lacks (Err why) ≡ false → ((x : A) → lacks (f x) ≡ false) → lacks (or_fault o why >>= f) ≡ false
 after_fault (Some x) why f e more = more x
 after_fault None why f e more = e
 
@@ -108,8 +108,7 @@ judged_row rows pair known now d ao x one is =
     (λ n. after_require (nat_le (n + segment_length d) number_limit) Far _ refl
     (λ u. after_require (same_bytes ao.mac (mac_of (found_with x d ao c n))) BadMac _ refl (λ u. refl))))))))
 
-same_lack : (why : Verdict) → lacks_row (Err (Refused why)) ≡ lacks (Err why)
-same_lack (Pass row) = refl
+same_lack : (why : Refusal) → lacks_row (Err (Refused why)) ≡ lacks (Err why)
 same_lack NoAo = refl
 same_lack TwoAo = refl
 same_lack WithMd5 = refl

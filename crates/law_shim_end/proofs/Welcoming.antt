@@ -16,7 +16,7 @@ use Rattle.book_keys.specs.Choices.{Numbered}
 use Rattle.book_keys.specs.Coordination.{Sending}
 use Rattle.book_keys.specs.Plans.{mirrored}
 use Rattle.book_keys.specs.Rows.{Row}
-use Rattle.book_endpoint.specs.declared.verdict.Verdict.TheVariants.{NoContext as Nothing}
+use Rattle.book_endpoint.specs.declared.refusal.Refusal.TheVariants.{NoContext as Nothing}
 use Rattle.book_endpoint.specs.Arrivals.{from_peer}
 use Rattle.book_endpoint.specs.Emissions.{Draft, Emission, Emits, emit, resend, sets, written, written_area, written_ip, ao_place, blank, no_mac, own_ao, seal_of, input_of, sealed, written_ao}
 use Rattle.book_endpoint.specs.States.{EndState, own_mss}

@@ -12,7 +12,7 @@ use Rattle.book_keys.specs.declared.plan.Plan.{Plan}
 use Rattle.book_keys.specs.Choices.{Numbered, accept_row}
 use Rattle.book_keys.specs.Lifetimes.{greatest_time}
 use Rattle.book_keys.specs.Plans.{lint_rows}
-use Rattle.book_endpoint.specs.declared.verdict.Verdict.TheVariants.{NoTuple, Expired}
+use Rattle.book_endpoint.specs.declared.refusal.Refusal.TheVariants.{NoTuple, Expired}
 use Rattle.book_shim.specs.declared.kept.Kept.{Kept}
 use Rattle.book_shim.specs.declared.refusal.Unsent.{Unsent}
 use Rattle.book_shim.specs.declared.refusal.Unsent.TheVariants.{NoKey, Unkeyed as NoRow}

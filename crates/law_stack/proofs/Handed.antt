@@ -21,8 +21,8 @@ use Rattle.book_keys.specs.Choices.{Numbered}
 use Rattle.book_keys.specs.Rows.{Row}
 use Rattle.book_endpoint.specs.declared.phase.Phase.{Phase}
 use Rattle.book_endpoint.specs.declared.phase.Phase.TheVariants.{Established, Listen, SynSent, SynReceived}
-use Rattle.book_endpoint.specs.declared.verdict.Verdict.{Verdict}
-use Rattle.book_endpoint.specs.declared.verdict.Verdict.TheVariants.{BadMac, MacLength, NoContext, Range}
+use Rattle.book_endpoint.specs.declared.refusal.Refusal.{Refusal}
+use Rattle.book_endpoint.specs.declared.refusal.Refusal.TheVariants.{BadMac, MacLength, NoContext, Range}
 use Rattle.book_endpoint.specs.States.{EndState, hears, number_limit, window}
 use Rattle.book_endpoint.specs.Verdicts.{Finding, Judgement, Known, found_with, judge, mac_of, segment_number, one_ao, require, row_taking}
 use Rattle.book_endpoint.specs.Arrivals.{arrive, heard, judged_by, numbers_known}
@@ -87,7 +87,7 @@ input_same n d c ao full = rw (same_pseudo d c (header d 0 (covered full d.area 
 found_same : (r : Numbered) (d : Segment) (c : ℕ) (ao : Ao) (context : List ℕ) (n : ℕ) → found_with r (with_sum d c) ao context n ≡ found_with r d ao context n
 found_same r d c ao context n = rw (input_same n d c ao r.row.with_options) refl
 
-bind_same : {A B : Type 0} (r : Result A Verdict) (f g : A → Result B Verdict) → ((x : A) → f x ≡ g x) → (r >>= f) ≡ (r >>= g)
+bind_same : {A B : Type 0} (r : Result A Refusal) (f g : A → Result B Refusal) → ((x : A) → f x ≡ g x) → (r >>= f) ≡ (r >>= g)
 bind_same (Ok x) f g same = same x
 bind_same (Err e) f g same = refl
 

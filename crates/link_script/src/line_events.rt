@@ -17,7 +17,7 @@ use book_lines::LineKind;
 use book_link::{Action, Event, Fixing};
 use book_pcap::LONGEST_DATAGRAM;
 use std::alloc::Global;
-use text_lines::{LineWords, Refusal};
+use text_lines::{LineWords, WordProblem};
 
 /// The greatest initial sequence number (RFC 9293, section 3.4.1).
 const MOST_ISN: u64 = 4_294_967_295;
@@ -66,7 +66,7 @@ fn start(words: &mut LineWords) -> Result<Event, LineKind>
 }
 
 #[tactic(auto, unfolding(book_cmd_link::specs::LinkEvents::give_of))]
-fn give(alloc: Global, words: &mut LineWords) -> Result<Event, Refusal>
+fn give(alloc: Global, words: &mut LineWords) -> Result<Event, WordProblem>
     ensures { Tells result (give_of words.old) }
 {
     let end = words.end()?;
@@ -76,7 +76,7 @@ fn give(alloc: Global, words: &mut LineWords) -> Result<Event, Refusal>
 }
 
 #[tactic(auto, unfolding(book_cmd_link::specs::LinkEvents::fill_of))]
-fn fill(alloc: Global, words: &mut LineWords) -> Result<Event, Refusal>
+fn fill(alloc: Global, words: &mut LineWords) -> Result<Event, WordProblem>
     ensures { Tells result (fill_of words.old) }
 {
     let end = words.end()?;
@@ -87,7 +87,7 @@ fn fill(alloc: Global, words: &mut LineWords) -> Result<Event, Refusal>
 }
 
 #[tactic(auto, unfolding(book_cmd_link::specs::LinkEvents::inject_of))]
-fn inject(alloc: Global, words: &mut LineWords) -> Result<Event, Refusal>
+fn inject(alloc: Global, words: &mut LineWords) -> Result<Event, WordProblem>
     ensures { Tells result (inject_of words.old) }
 {
     let end = words.end()?;
@@ -118,7 +118,7 @@ fn fixing(words: &mut LineWords) -> Result<Fixing, LineKind>
 }
 
 #[tactic(auto, unfolding(book_cmd_link::specs::LinkEvents::alter_of))]
-fn alter(alloc: Global, words: &mut LineWords) -> Result<Event, Refusal>
+fn alter(alloc: Global, words: &mut LineWords) -> Result<Event, WordProblem>
     ensures { Tells result (alter_of words.old) }
 {
     let end = words.end()?;
@@ -141,7 +141,7 @@ fn dump(words: &mut LineWords) -> Result<Event, LineKind>
 
 /// The event that the name and the words after it make.
 #[tactic(auto, unfolding(book_cmd_link::specs::LinkEvents::event_named))]
-fn named(alloc: Global, name: Name, words: &mut LineWords) -> Result<Event, Refusal>
+fn named(alloc: Global, name: Name, words: &mut LineWords) -> Result<Event, WordProblem>
     ensures { Tells result (event_named (name_text name) words.old) }
 {
     match name {
@@ -172,11 +172,11 @@ fn named(alloc: Global, name: Name, words: &mut LineWords) -> Result<Event, Refu
 /// hexadecimal, and `Range` where a number or a length is out of its range. `Memory` only for want
 /// of memory. No more is said of the words that are left.
 #[tactic(auto, unfolding(book_cmd_link::specs::LinkEvents::link_event_of), using(crate::proofs::NameLaws::named_or_not))]
-pub(crate) fn read_event(alloc: Global, words: &mut LineWords) -> Result<Event, Refusal>
+pub(crate) fn read_event(alloc: Global, words: &mut LineWords) -> Result<Event, WordProblem>
     ensures { Tells result (link_event_of words.old) }
 {
     match Name::read(words.word()?) {
         Some(name) => named(alloc, name, words),
-        None => Err(Refusal::Kind(LineKind::Word)),
+        None => Err(WordProblem::Kind(LineKind::Word)),
     }
 }

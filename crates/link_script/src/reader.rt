@@ -15,10 +15,10 @@ use book_keys::LONGEST_MASTER_KEY;
 use book_lines::{LineKind, TextFault};
 use book_link::{Event, Events};
 use std::alloc::Global;
-use text_lines::{LineWords, Refusal, Saying, SayingLines, count_lines};
+use text_lines::{LineWords, Saying, SayingLines, WordProblem, count_lines};
 
 #[tactic(auto, unfolding(book_cmd_link::specs::LinkFiles::shared_key_of))]
-fn shared_key(alloc: Global, words: &mut LineWords) -> Result<SharedKey, Refusal>
+fn shared_key(alloc: Global, words: &mut LineWords) -> Result<SharedKey, WordProblem>
     ensures { Tells result (shared_key_of words.old) }
 {
     words.literal(b"shared")?;
@@ -36,8 +36,8 @@ fn key_line(alloc: Global, lines: &mut SayingLines, missing: u32) -> Result<Shar
     let mut line = next_line(lines, missing, LineKind::Shared)?;
     match shared_key(alloc, &mut line.words) {
         Ok(key) => Ok(key),
-        Err(Refusal::Memory) => Err(TextFault::Memory),
-        Err(Refusal::Kind(_)) => Err(TextFault::Line(line.number, LineKind::Shared)),
+        Err(WordProblem::Memory) => Err(TextFault::Memory),
+        Err(WordProblem::Kind(_)) => Err(TextFault::Line(line.number, LineKind::Shared)),
     }
 }
 

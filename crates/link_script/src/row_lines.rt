@@ -11,7 +11,7 @@ use book_keys::{Direction, GREATEST_KEY_ID, LATEST, LONGEST_MASTER_KEY, Lifetime
 use book_lines::LineKind;
 use book_link::{Action, Event};
 use std::alloc::Global;
-use text_lines::{LineWords, Refusal};
+use text_lines::{LineWords, WordProblem};
 
 /// The Direction that a word names.
 #[tactic(auto, unfolding(book_keys::specs::Columns::direction_of))]
@@ -46,7 +46,7 @@ fn key_id(words: &mut LineWords) -> Result<u8, LineKind>
 
 /// The row that `add` adds, of the words after the name.
 #[tactic(auto, unfolding(book_cmd_link::specs::LinkEvents::add_of))]
-pub(crate) fn add(alloc: Global, words: &mut LineWords) -> Result<Event, Refusal>
+pub(crate) fn add(alloc: Global, words: &mut LineWords) -> Result<Event, WordProblem>
     ensures { Tells result (add_of words.old) }
 {
     let end = words.end()?;

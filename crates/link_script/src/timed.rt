@@ -11,7 +11,7 @@ use super::reader::is_shared;
 use book_cmd_timed::{TimedEvent, TimedEvents, TimedScript};
 use book_lines::{LineKind, TextFault};
 use std::alloc::Global;
-use text_lines::{LineWords, Refusal, Saying, SayingLines, count_lines};
+use text_lines::{LineWords, Saying, SayingLines, WordProblem, count_lines};
 
 /// The longest wait, in seconds.
 const LONGEST_WAIT: u64 = 3600;
@@ -28,14 +28,14 @@ fn wait(words: &mut LineWords) -> Result<TimedEvent, LineKind>
 }
 
 /// The plain event that the words of a line make.
-fn plain(alloc: Global, words: &mut LineWords) -> Result<TimedEvent, Refusal>
+fn plain(alloc: Global, words: &mut LineWords) -> Result<TimedEvent, WordProblem>
     ensures { Tells result (plain_of words.old) }
 {
     Ok(TimedEvent::Plain(read_event(alloc, words)?))
 }
 
 /// The event that the words of a line make, a plain one or a wait.
-fn timed_event(alloc: Global, words: &mut LineWords) -> Result<TimedEvent, Refusal>
+fn timed_event(alloc: Global, words: &mut LineWords) -> Result<TimedEvent, WordProblem>
     ensures { Tells result (timed_event_of words.old) }
 {
     let mut behind = words.ahead();

@@ -8,7 +8,7 @@ use Rattle.book_segments.specs.Segments.{Segment, Reading, Read, Bad, bit_of, re
 use Rattle.book_segments.specs.declared.fault.DatagramFault.{DatagramFault}
 use Rattle.tcp_segment.specs.Sums.{HasPlainHeader}
 use Rattle.book_keys.specs.Rows.{Row}
-use Rattle.book_endpoint.specs.declared.verdict.Passed.{Passed}
+use Rattle.book_endpoint.specs.declared.passed.Passed.{Passed}
 use Rattle.book_endpoint.specs.Verdicts.{Finding}
 use Rattle.tcp_options.specs.Views.{view_ao}
 use Rattle.ao_check.specs.declared.passing.Passing.{Passing}

@@ -5,7 +5,7 @@ ghost use Rattle.book_sessions.specs.Retiring.{ending_by, is_counted, is_live, m
 ghost use Rattle.scope_retiring.specs.Known.{HasSession};
 
 use crate::ending::{ending_among, is_ended};
-use book_endpoint::Verdict;
+use book_endpoint::Refusal;
 use book_sessions::{Ending, KeyUse, SegmentOutcome};
 use session_index::SessionIndex;
 use std::alloc::{AllocError, Global};
@@ -14,7 +14,7 @@ fn may_be_right(outcome: SegmentOutcome) -> bool
     ensures { result ≡ may_be_right outcome }
 {
     match outcome {
-        SegmentOutcome::Refused(why) => matches!(why, Verdict::NoContext),
+        SegmentOutcome::Refused(why) => matches!(why, Refusal::NoContext),
         _ => true,
     }
 }

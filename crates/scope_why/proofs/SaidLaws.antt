@@ -7,8 +7,9 @@ use Rattle.toml.specs.View.{table_view}
 use Rattle.book_cmd_show.specs.declared.checksum.Checksum.{Checksum}
 use Rattle.book_cmd_check.specs.declared.given.GivenIsns.{GivenIsns}
 use Rattle.book_cmd_check.specs.Captures.{Connection, Heard, most_connections, Saying, Judged, TooManyConnections, Unreadable, UnknownNode, connection_between, hear_at, hear_read, is_pass, saying_texts}
-use Rattle.book_endpoint.specs.declared.verdict.Verdict.{Verdict}
-use Rattle.book_endpoint.specs.declared.verdict.Verdict.TheVariants as verdict
+use Rattle.book_endpoint.specs.declared.refusal.Refusal.{Refusal}
+use Rattle.ao_check.specs.Verdicts.{Verdict}
+use Rattle.book_endpoint.specs.declared.refusal.Refusal.TheVariants as refusal
 use Rattle.book_endpoint.specs.Verdicts.{Judgement}
 use Rattle.book_keys.specs.Choices.{Numbered}
 use Rattle.book_keys.specs.Rows.{Table, has_address}
@@ -41,16 +42,16 @@ use Rattle.scope_why.proofs.Parts.{on_two, on_same}
 -- ---- what was answered is what is said
 
 judged_is : (q : Inquiry) (v : Verdict) (j : Judgement) (checksum : Checksum) → IsJudged v j → lines_of_verdict q v ≡ why_lines q (Judged j checksum)
-judged_is q (verdict.Pass p) j checksum judged = rw (judged.1) refl
-judged_is q verdict.NoAo j checksum is = rw is refl
-judged_is q verdict.TwoAo j checksum is = rw is refl
-judged_is q verdict.WithMd5 j checksum is = rw is refl
-judged_is q verdict.NoTuple j checksum is = rw is refl
-judged_is q verdict.Expired j checksum is = rw is refl
-judged_is q verdict.MacLength j checksum is = rw is refl
-judged_is q verdict.NoContext j checksum is = rw is refl
-judged_is q verdict.Range j checksum is = rw is refl
-judged_is q verdict.BadMac j checksum is = rw is refl
+judged_is q (Ok p) j checksum judged = rw (judged.1) refl
+judged_is q (Err refusal.NoAo) j checksum is = rw is refl
+judged_is q (Err refusal.TwoAo) j checksum is = rw is refl
+judged_is q (Err refusal.WithMd5) j checksum is = rw is refl
+judged_is q (Err refusal.NoTuple) j checksum is = rw is refl
+judged_is q (Err refusal.Expired) j checksum is = rw is refl
+judged_is q (Err refusal.MacLength) j checksum is = rw is refl
+judged_is q (Err refusal.NoContext) j checksum is = rw is refl
+judged_is q (Err refusal.Range) j checksum is = rw is refl
+judged_is q (Err refusal.BadMac) j checksum is = rw is refl
 
 said_is : (q : Inquiry) (l : CheckLine) (s : Saying) → Says l s → lines_of_said q l ≡ why_lines q s
 said_is q (line.Bad fault) s says = rw says refl
@@ -90,33 +91,32 @@ module _ (document : Members) (tables : List Table) (told : List GivenIsns) (wit
   passing : passing_values one ≡ passing_values two
   passing =
       ap (λ (x : List ℕ). x ++ if_found (mac_lines with_key) (suspect_at one.sight)) values
-      ∙ ap (λ (r : Result Suspect Verdict). values_lines two ++ if_found (mac_lines with_key) r) suspects
+      ∙ ap (λ (r : Result Suspect Refusal). values_lines two ++ if_found (mac_lines with_key) r) suspects
 
   changes : if_found (changes_lines one) (suspect_at one.sight) ≡ if_found (changes_lines two) (suspect_at two.sight)
   changes = ap (if_found (changes_lines two)) suspects
 
-  wrong_length : refusal_lines one verdict.MacLength ≡ refusal_lines two verdict.MacLength
+  wrong_length : refusal_lines one refusal.MacLength ≡ refusal_lines two refusal.MacLength
   wrong_length =
-      ap (λ (r : Result Numbered Verdict). if_found (row_shown_line document t) r
+      ap (λ (r : Result Numbered Refusal). if_found (row_shown_line document t) r
       ++ (if_found (λ (ao : Ao). if_found (length_line ao) r) (ao_at two.sight) ++ if_found (changes_lines one) (suspect_at one.sight))) rows
       ∙ ap (λ (x : List ℕ). row_taking_line two ++ (if_found (λ (ao : Ao). if_found (length_line ao) (row_at two.sight)) (ao_at two.sight) ++ x)) changes
 
-  wrong_mac : refusal_lines one verdict.BadMac ≡ refusal_lines two verdict.BadMac
+  wrong_mac : refusal_lines one refusal.BadMac ≡ refusal_lines two refusal.BadMac
   wrong_mac =
       ap (λ (x : List ℕ). x ++ if_found (wrong_mac_lines one) (suspect_at one.sight)) values
-      ∙ ap (λ (r : Result Suspect Verdict). values_lines two ++ if_found (wrong_mac_lines two) r) suspects
+      ∙ ap (λ (r : Result Suspect Refusal). values_lines two ++ if_found (wrong_mac_lines two) r) suspects
 
-  refused : (v : Verdict) → refusal_lines one v ≡ refusal_lines two v
-  refused (verdict.Pass p) = refl
-  refused verdict.NoAo = refl
-  refused verdict.TwoAo = refl
-  refused verdict.WithMd5 = refl
-  refused verdict.NoTuple = refl
-  refused verdict.Expired = refl
-  refused verdict.MacLength = wrong_length
-  refused verdict.NoContext = ap (λ (x : List ℕ). x ++ no_handshake_line) taking
-  refused verdict.Range = ap (λ (x : List ℕ). x ++ range_line (number_at two.sight)) values
-  refused verdict.BadMac = wrong_mac
+  refused : (v : Refusal) → refusal_lines one v ≡ refusal_lines two v
+  refused refusal.NoAo = refl
+  refused refusal.TwoAo = refl
+  refused refusal.WithMd5 = refl
+  refused refusal.NoTuple = refl
+  refused refusal.Expired = refl
+  refused refusal.MacLength = wrong_length
+  refused refusal.NoContext = ap (λ (x : List ℕ). x ++ no_handshake_line) taking
+  refused refusal.Range = ap (λ (x : List ℕ). x ++ range_line (number_at two.sight)) values
+  refused refusal.BadMac = wrong_mac
 
   same_known : (s : Saying) → why_lines one s ≡ why_lines two s
   same_known (Unreadable fault) = refl

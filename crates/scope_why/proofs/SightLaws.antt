@@ -8,7 +8,7 @@ use Rattle.book_why_texts.specs.Inquiries.{if_found}
 use Rattle.book_why.specs.declared.change.IsnPair.{IsnPair}
 use Rattle.book_keys.specs.Choices.{Numbered}
 use Rattle.book_segments.specs.Options.{Ao}
-use Rattle.book_endpoint.specs.declared.verdict.Verdict.TheVariants.{NoContext, Range}
+use Rattle.book_endpoint.specs.declared.refusal.Refusal.TheVariants.{NoContext, Range}
 use Rattle.book_why_texts.specs.Sights.{Sight, ao_at, isns_at, known_at, number_at, row_at, suspect_at}
 use Rattle.scope_why.specs.Finding.{Finds, Lacking}
 

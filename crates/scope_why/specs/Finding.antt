@@ -1,7 +1,6 @@
 -- What is found of a value that may be missing (own).
 use Rattle.std.specs.Prelude.{◌≡◌, ◌≤◌, ◌^◌, ℕ, List, [], ◌++◌, Option, Some, None, Result, Ok, Err, IfSome, codes, decimal, ◌∷◌}
-use Rattle.book_endpoint.specs.declared.verdict.Verdict.{Verdict}
-use Rattle.book_endpoint.specs.declared.verdict.Verdict.TheVariants.{Pass}
+use Rattle.ao_check.specs.Verdicts.{Verdict}
 use Rattle.book_cmd_check.specs.Captures.{most_connections}
 use Rattle.book_keys.specs.Choices.{Numbered}
 use Rattle.book_why_texts.specs.Inquiries.{Inquiry, passing_values, refusal_lines}
@@ -30,8 +29,8 @@ IsWithin i = IfSome i.known (λ k. k.expected ≤ 2 ^ 63)
 
 -- what decided a verdict
 abbrev pub lines_of_verdict : Inquiry → Verdict → List ℕ
-lines_of_verdict q (Pass p) = passing_values q
-lines_of_verdict q why = refusal_lines q why
+lines_of_verdict q (Ok p) = passing_values q
+lines_of_verdict q (Err why) = refusal_lines q why
 
 -- what decided what is said of a segment
 abbrev pub lines_of_said : Inquiry → CheckLine → List ℕ

@@ -14,7 +14,7 @@ use crate::rows::push_rows_and_lacks;
 use crate::sight::{ao_at, number_at};
 use crate::values::{push_row_taking, push_values};
 use ao_base::push_decimal;
-use book_endpoint::Verdict;
+use book_endpoint::{Passed, Refusal};
 use capture_check::{CheckLine, pair_at};
 use cmd_show::push_options;
 use key_table::Table;
@@ -129,22 +129,22 @@ fn push_verdict(
     alloc: Global,
     out: &mut Vec<u8>,
     inquiry: &Inquiry<'_>,
-    verdict: &Verdict,
+    verdict: &Result<Passed, Refusal>,
 ) -> Result<(), AllocError>
     requires { IsWithin inquiry.now }
     ensures { OnOk result (out.new.items ≡ out.old.items ++ lines_of_verdict (inquiry_of inquiry.now) verdict.now) }
 {
     match verdict {
-        Verdict::Pass(_) => push_passing_values(alloc, out, inquiry),
-        Verdict::NoAo => push_options_line(out, inquiry.datagram),
-        Verdict::TwoAo => push_options_line(out, inquiry.datagram),
-        Verdict::WithMd5 => push_options_line(out, inquiry.datagram),
-        Verdict::NoTuple => push_untaken(out, inquiry),
-        Verdict::Expired => push_untaken(out, inquiry),
-        Verdict::MacLength => push_wrong_length(alloc, out, inquiry),
-        Verdict::NoContext => push_no_context(out, inquiry),
-        Verdict::Range => push_out_of_range(out, inquiry),
-        Verdict::BadMac => push_bad_mac(alloc, out, inquiry),
+        Ok(_) => push_passing_values(alloc, out, inquiry),
+        Err(Refusal::NoAo) => push_options_line(out, inquiry.datagram),
+        Err(Refusal::TwoAo) => push_options_line(out, inquiry.datagram),
+        Err(Refusal::WithMd5) => push_options_line(out, inquiry.datagram),
+        Err(Refusal::NoTuple) => push_untaken(out, inquiry),
+        Err(Refusal::Expired) => push_untaken(out, inquiry),
+        Err(Refusal::MacLength) => push_wrong_length(alloc, out, inquiry),
+        Err(Refusal::NoContext) => push_no_context(out, inquiry),
+        Err(Refusal::Range) => push_out_of_range(out, inquiry),
+        Err(Refusal::BadMac) => push_bad_mac(alloc, out, inquiry),
     }
 }
 

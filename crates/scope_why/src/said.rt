@@ -8,7 +8,7 @@ ghost use Rattle.capture_check.specs.Answers.{Says, answer_texts, checksum_texts
 
 use ao_base::push_decimal;
 use book_cmd_show::Checksum;
-use book_endpoint::{Passed, Verdict};
+use book_endpoint::{Passed, Refusal};
 use book_segments::DatagramFault;
 use capture_check::CheckLine;
 use segment_words::{push_checksum, push_fault, verdict_word};
@@ -35,30 +35,26 @@ fn push_pass(out: &mut Vec<u8>, passed: &Passed, checksum: Checksum) -> Result<(
     push_end(out, checksum)
 }
 
-fn push_refused(out: &mut Vec<u8>, verdict: &Verdict, checksum: Checksum) -> Result<(), AllocError>
+fn push_refused(out: &mut Vec<u8>, why: Refusal, checksum: Checksum) -> Result<(), AllocError>
     ensures { OnOk result (out.new.items ≡ out.old.items ++ line_text
-        (codes "refused" ∷ verdict_text verdict.now ∷ checksum_texts checksum)) }
+        (codes "refused" ∷ verdict_text why ∷ checksum_texts checksum)) }
 {
     out.extend_from_slice(b"refused ")?;
-    out.extend_from_slice(verdict_word(*verdict))?;
+    out.extend_from_slice(verdict_word(why))?;
     push_end(out, checksum)
 }
 
-fn push_verdict(out: &mut Vec<u8>, verdict: &Verdict, checksum: Checksum) -> Result<(), AllocError>
+fn push_verdict(
+    out: &mut Vec<u8>,
+    verdict: &Result<Passed, Refusal>,
+    checksum: Checksum,
+) -> Result<(), AllocError>
     ensures { OnOk result (out.new.items ≡ out.old.items ++ line_text
         (verdict_texts verdict.now ++ checksum_texts checksum)) }
 {
     match verdict {
-        Verdict::Pass(passed) => push_pass(out, passed, checksum),
-        Verdict::NoAo => push_refused(out, verdict, checksum),
-        Verdict::TwoAo => push_refused(out, verdict, checksum),
-        Verdict::WithMd5 => push_refused(out, verdict, checksum),
-        Verdict::NoTuple => push_refused(out, verdict, checksum),
-        Verdict::Expired => push_refused(out, verdict, checksum),
-        Verdict::MacLength => push_refused(out, verdict, checksum),
-        Verdict::NoContext => push_refused(out, verdict, checksum),
-        Verdict::Range => push_refused(out, verdict, checksum),
-        Verdict::BadMac => push_refused(out, verdict, checksum),
+        Ok(passed) => push_pass(out, passed, checksum),
+        Err(why) => push_refused(out, *why, checksum),
     }
 }
 

@@ -4,24 +4,23 @@ ghost use Rattle.book_link.specs.Reports.{verdict_text};
 ghost use Rattle.book_sessions.specs.OutcomeTexts.{outcome_text};
 ghost use Rattle.book_sessions.specs.Sessions.{same_id, same_outcome, same_protection};
 
-use book_endpoint::Verdict;
+use book_endpoint::Refusal;
 use book_sessions::{Protection, SegmentOutcome};
 use segment_words::verdict_word;
 
-fn unconfirmed_word(why: Verdict) -> &'static [u8]
+fn unconfirmed_word(why: Refusal) -> &'static [u8]
     ensures { result.now ≡ codes "unconfirmed-" ++ verdict_text why }
 {
     match why {
-        Verdict::Pass(_) => b"unconfirmed-pass",
-        Verdict::NoAo => b"unconfirmed-no-ao",
-        Verdict::TwoAo => b"unconfirmed-two-ao",
-        Verdict::WithMd5 => b"unconfirmed-with-md5",
-        Verdict::NoTuple => b"unconfirmed-no-tuple",
-        Verdict::Expired => b"unconfirmed-expired",
-        Verdict::MacLength => b"unconfirmed-mac-length",
-        Verdict::NoContext => b"unconfirmed-no-context",
-        Verdict::Range => b"unconfirmed-range",
-        Verdict::BadMac => b"unconfirmed-bad-mac",
+        Refusal::NoAo => b"unconfirmed-no-ao",
+        Refusal::TwoAo => b"unconfirmed-two-ao",
+        Refusal::WithMd5 => b"unconfirmed-with-md5",
+        Refusal::NoTuple => b"unconfirmed-no-tuple",
+        Refusal::Expired => b"unconfirmed-expired",
+        Refusal::MacLength => b"unconfirmed-mac-length",
+        Refusal::NoContext => b"unconfirmed-no-context",
+        Refusal::Range => b"unconfirmed-range",
+        Refusal::BadMac => b"unconfirmed-bad-mac",
     }
 }
 

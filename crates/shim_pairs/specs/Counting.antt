@@ -1,8 +1,8 @@
 -- What a shim counts. The file's tops: `leaving_counted`, `arriving_counted` and
 -- `ignored_counted`.
 use Rattle.std.specs.Prelude.{ℕ, ◌+◌, min, Bool, true, false, Result, Ok, Err}
-use Rattle.book_endpoint.specs.declared.verdict.Verdict.{Verdict}
-use Rattle.book_endpoint.specs.declared.verdict.Verdict.TheVariants as verdict
+use Rattle.book_endpoint.specs.declared.refusal.Refusal.{Refusal}
+use Rattle.book_endpoint.specs.declared.refusal.Refusal.TheVariants as refusal
 use Rattle.book_segments.specs.declared.fault.DatagramFault.{DatagramFault}
 use Rattle.book_segments.specs.declared.fault.DatagramFault.TheVariants as fault
 use Rattle.book_shim.specs.declared.refusal.Unsent.TheVariants as unsent
@@ -92,17 +92,16 @@ fault_counted fault.DataOffset k = record k { data_offset = next_count k.data_of
 fault_counted (fault.BadOption why) k = record k { bad_option = next_count k.bad_option }
 
 -- the check refused one more, for this reason; a pass is none (own)
-abbrev pub verdict_counted : Verdict → VerdictCounters → VerdictCounters
-verdict_counted (verdict.Pass passed) k = k
-verdict_counted verdict.NoAo k = record k { no_ao = next_count k.no_ao }
-verdict_counted verdict.TwoAo k = record k { two_ao = next_count k.two_ao }
-verdict_counted verdict.WithMd5 k = record k { with_md5 = next_count k.with_md5 }
-verdict_counted verdict.NoTuple k = record k { no_tuple = next_count k.no_tuple }
-verdict_counted verdict.Expired k = record k { expired = next_count k.expired }
-verdict_counted verdict.MacLength k = record k { mac_length = next_count k.mac_length }
-verdict_counted verdict.NoContext k = record k { no_context = next_count k.no_context }
-verdict_counted verdict.Range k = record k { range = next_count k.range }
-verdict_counted verdict.BadMac k = record k { bad_mac = next_count k.bad_mac }
+abbrev pub verdict_counted : Refusal → VerdictCounters → VerdictCounters
+verdict_counted refusal.NoAo k = record k { no_ao = next_count k.no_ao }
+verdict_counted refusal.TwoAo k = record k { two_ao = next_count k.two_ao }
+verdict_counted refusal.WithMd5 k = record k { with_md5 = next_count k.with_md5 }
+verdict_counted refusal.NoTuple k = record k { no_tuple = next_count k.no_tuple }
+verdict_counted refusal.Expired k = record k { expired = next_count k.expired }
+verdict_counted refusal.MacLength k = record k { mac_length = next_count k.mac_length }
+verdict_counted refusal.NoContext k = record k { no_context = next_count k.no_context }
+verdict_counted refusal.Range k = record k { range = next_count k.range }
+verdict_counted refusal.BadMac k = record k { bad_mac = next_count k.bad_mac }
 
 -- one more datagram of the own kernel wasn't sealed, for this reason (own)
 abbrev pub unsent_counted : PairUnsent → LeavingCounters → LeavingCounters

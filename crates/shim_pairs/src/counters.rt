@@ -5,7 +5,7 @@ ghost use Rattle.shim_pairs.specs.Counting.{next_count, no_counters, unsent_coun
 ghost use Rattle.shim_pairs.specs.Counting.{no_faults, no_verdicts};
 
 use crate::answer::{PairUnsent, PairUntaken, Passed};
-use book_endpoint::Verdict;
+use book_endpoint::Refusal;
 use book_segments::DatagramFault;
 use book_shim::{Unsent, Untaken};
 
@@ -206,20 +206,19 @@ fn fault_counted(why: DatagramFault, mut counters: FaultCounters) -> FaultCounte
 }
 
 /// The check refused one more, for this reason; a pass is none.
-fn verdict_counted(why: Verdict, mut counters: VerdictCounters) -> VerdictCounters
+fn verdict_counted(why: Refusal, mut counters: VerdictCounters) -> VerdictCounters
     ensures { result ≡ verdict_counted why counters }
 {
     match why {
-        Verdict::Pass(_) => {}
-        Verdict::NoAo => counters.no_ao = next_count(counters.no_ao),
-        Verdict::TwoAo => counters.two_ao = next_count(counters.two_ao),
-        Verdict::WithMd5 => counters.with_md5 = next_count(counters.with_md5),
-        Verdict::NoTuple => counters.no_tuple = next_count(counters.no_tuple),
-        Verdict::Expired => counters.expired = next_count(counters.expired),
-        Verdict::MacLength => counters.mac_length = next_count(counters.mac_length),
-        Verdict::NoContext => counters.no_context = next_count(counters.no_context),
-        Verdict::Range => counters.range = next_count(counters.range),
-        Verdict::BadMac => counters.bad_mac = next_count(counters.bad_mac),
+        Refusal::NoAo => counters.no_ao = next_count(counters.no_ao),
+        Refusal::TwoAo => counters.two_ao = next_count(counters.two_ao),
+        Refusal::WithMd5 => counters.with_md5 = next_count(counters.with_md5),
+        Refusal::NoTuple => counters.no_tuple = next_count(counters.no_tuple),
+        Refusal::Expired => counters.expired = next_count(counters.expired),
+        Refusal::MacLength => counters.mac_length = next_count(counters.mac_length),
+        Refusal::NoContext => counters.no_context = next_count(counters.no_context),
+        Refusal::Range => counters.range = next_count(counters.range),
+        Refusal::BadMac => counters.bad_mac = next_count(counters.bad_mac),
     }
     counters
 }

@@ -5,10 +5,10 @@ use Rattle.book_segments.specs.Segments.{Segment}
 use Rattle.book_keys.specs.Rows.{Row}
 use Rattle.book_cmd_node.specs.NodeRuns.{NodeState}
 use Rattle.book_endpoint.specs.Verdicts.{Finding, Judgement}
-use Rattle.book_endpoint.specs.declared.verdict.Passed.{Passed}
-use Rattle.book_endpoint.specs.declared.verdict.Verdict.{Verdict}
-use Rattle.book_endpoint.specs.declared.verdict.Verdict.TheVariants as verdicts
-use Rattle.ao_check.specs.Verdicts.{IsRefusal, Tells}
+use Rattle.book_endpoint.specs.declared.passed.Passed.{Passed}
+use Rattle.book_endpoint.specs.declared.refusal.Refusal.{Refusal}
+use Rattle.book_endpoint.specs.declared.refusal.Refusal.TheVariants as refusals
+use Rattle.ao_check.specs.Verdicts.{Tells}
 use Rattle.stack_ends.specs.declared.ends.Ends.{Ends}
 use Rattle.stack_ends.specs.Arrivals.{syn_judged}
 use Rattle.stack_ends.specs.Stands.{Stands}
@@ -17,24 +17,11 @@ use Rattle.stack_ends.specs.Stands.{Stands}
 at_ends : (k : Ends) (rows : List Row) (n : NodeState) (pair : Pair) (d : Segment) → Stands k rows n → syn_judged k.table.rows pair k.clock d ≡ syn_judged rows pair n.clock d
 at_ends k rows n pair d S = ap (λ (r : List Row). syn_judged r pair k.clock d) S.rows_are ∙ ap (λ (t : ℕ). syn_judged rows pair t d) (sym S.clock)
 
--- a refusal that is told is the judgement
-refused : (rows : List Row) (pair : Pair) (d : Segment) (why : Verdict) (j : Judgement) → IsRefusal why → Tells rows pair d why j → j ≡ Err why
-refused rows pair d (verdicts.Pass p) j isnt h = absurd isnt
-refused rows pair d verdicts.NoAo j isnt h = h
-refused rows pair d verdicts.TwoAo j isnt h = h
-refused rows pair d verdicts.WithMd5 j isnt h = h
-refused rows pair d verdicts.NoTuple j isnt h = h
-refused rows pair d verdicts.Expired j isnt h = h
-refused rows pair d verdicts.MacLength j isnt h = h
-refused rows pair d verdicts.NoContext j isnt h = h
-refused rows pair d verdicts.Range j isnt h = h
-refused rows pair d verdicts.BadMac j isnt h = h
-
 module _ (k : Ends) (rows : List Row) (n : NodeState) (pair : Pair) (d : Segment) (S : Stands k rows n) where
   -- it passes
-  pub judged_good : (p : Passed) → Tells k.table.rows pair d (verdicts.Pass p) (syn_judged k.table.rows pair k.clock d) → (f : Finding) × (syn_judged rows pair n.clock d ≡ Ok f)
+  pub judged_good : (p : Passed) → Tells k.table.rows pair d (Ok p) (syn_judged k.table.rows pair k.clock d) → (f : Finding) × (syn_judged rows pair n.clock d ≡ Ok f)
   judged_good p h = (h.0, sym (at_ends k rows n pair d S) ∙ h.1)
 
   -- it is refused
-  pub judged_bad : (why : Verdict) → IsRefusal why → Tells k.table.rows pair d why (syn_judged k.table.rows pair k.clock d) → syn_judged rows pair n.clock d ≡ Err why
-  judged_bad why isnt h = sym (at_ends k rows n pair d S) ∙ refused k.table.rows pair d why (syn_judged k.table.rows pair k.clock d) isnt h
+  pub judged_bad : (why : Refusal) → Tells k.table.rows pair d (Err why) (syn_judged k.table.rows pair k.clock d) → syn_judged rows pair n.clock d ≡ Err why
+  judged_bad why h = sym (at_ends k rows n pair d S) ∙ h

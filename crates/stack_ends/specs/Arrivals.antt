@@ -6,7 +6,7 @@ use Rattle.book_keys.specs.Rows.{Row}
 use Rattle.book_endpoint.specs.States.{EndState}
 use Rattle.book_endpoint.specs.Arrivals.{arrive}
 use Rattle.book_endpoint.specs.Verdicts.{Finding, Judgement, judge}
-use Rattle.book_endpoint.specs.declared.verdict.Verdict.{Verdict}
+use Rattle.book_endpoint.specs.declared.refusal.Refusal.{Refusal}
 use Rattle.book_cmd_node.specs.NodeRuns.{NodeState, DatagramAnswered, after_call, called, held_end}
 use Rattle.book_segments.specs.Segments.{pair_reached}
 use Rattle.node_ends.specs.declared.answer.NodeArrival.{NodeArrival}
@@ -30,7 +30,7 @@ abbrev pub MeetsRead : Ends → List Row → NodeState → Segment → NodeArriv
 MeetsRead k rows n d told held = MeetsPair k rows n d (pair_reached d) told held
 
 -- what the check answers to a SYN is that judgement (own)
-abbrev pub IsJudged : Result (Unit {0}) Verdict → Judgement → Type 0
+abbrev pub IsJudged : Result (Unit {0}) Refusal → Judgement → Type 0
 IsJudged (Ok done) j = (f : Finding) × (j ≡ Ok f)
 IsJudged (Err why) j = j ≡ Err why
 

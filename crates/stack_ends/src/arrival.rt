@@ -9,7 +9,7 @@ ghost use Rattle.stack_ends.specs.Stands.{Stands, most_of};
 
 use crate::ends::Ends;
 use ao_base::Steps;
-use ao_check::{Verdict, check_syn};
+use ao_check::{Refusal, check_syn};
 use book_base::Pair;
 use node_ends::NodeArrival;
 use std::sync::ledger::Ledger;
@@ -43,7 +43,7 @@ impl Ends {
         pair: &Pair,
         datagram: &Datagram<'_>,
         steps: &mut Steps<L>,
-    ) -> Result<(), Verdict>
+    ) -> Result<(), Refusal>
         requires syn { has SYN datagram.now ≡ true }
         requires source { datagram.now.source ≡ pair.now.remote }
         requires destination { datagram.now.destination ≡ pair.now.local }

@@ -4,7 +4,7 @@ use Rattle.book_base.specs.declared.address.Pair.{Pair}
 use Rattle.book_segments.specs.Options.{find_ao}
 use Rattle.book_segments.specs.Segments.{Segment, Reading, Read, has, SYN}
 use Rattle.book_keys.specs.Rows.{Row}
-use Rattle.book_endpoint.specs.declared.verdict.Verdict.{Verdict}
+use Rattle.book_endpoint.specs.declared.refusal.Refusal.{Refusal}
 use Rattle.book_endpoint.specs.declared.arrival.Arrival.{Arrival}
 use Rattle.book_endpoint.specs.declared.arrival.Arrival.TheVariants as answers
 use Rattle.ao_kdf.specs.Cache.{Cache}
@@ -75,7 +75,7 @@ early_costs rows now e d a told old q =
     subst (λ (z : Arrived). Costs rows now d e e z old old) (sym q) at
 
 -- a refusal is told of what the check says, and its work is the check's
-pub refused_costs : {after : Endpoint} (rows : List Row) (now : ℕ) (e : Endpoint) (d : Segment) (w : Verdict) (told : Arrived) (pair : Pair) (old new : ℕ)
+pub refused_costs : {after : Endpoint} (rows : List Row) (now : ℕ) (e : Endpoint) (d : Segment) (w : Refusal) (told : Arrived) (pair : Pair) (old new : ℕ)
     → told ≡ record { arrival = answers.Refused w; passed = None } → pair ≡ e.pair
     → Counted e.association.keys after.association.keys (judging rows pair now (find_ao d.area)) (is_judged w) Inbound (has SYN d) old new
     → Costs rows now d e after told old new
@@ -89,7 +89,7 @@ refused_costs {after} rows now e d w told pair old new q p k =
     } in
     subst (λ (z : Arrived). Costs rows now d e after z old new) (sym q) at
 
-pub untold : (w : Verdict) (told : Arrived) → told ≡ record { arrival = answers.Refused w; passed = None } → IsBeforeCheck told.arrival → ⊥
+pub untold : (w : Refusal) (told : Arrived) → told ≡ record { arrival = answers.Refused w; passed = None } → IsBeforeCheck told.arrival → ⊥
 untold w told q b = subst (λ (z : Arrived). IsBeforeCheck z.arrival) q b
 
 no_pass : (p : Passing) → Some p ≡ None → ⊥

@@ -17,7 +17,7 @@ use Rattle.book_keys.specs.Rows.{Row}
 use Rattle.book_keys.specs.Choices.{Numbered, accept_row, has_id}
 use Rattle.book_endpoint.specs.Verdicts as v
 use Rattle.book_endpoint.proofs.JudgeSteps as steps
-use Rattle.book_endpoint.specs.declared.verdict.Verdict.TheVariants as refusals
+use Rattle.book_endpoint.specs.declared.refusal.Refusal.TheVariants as refusals
 use Rattle.book_base.specs.Algorithms.{mac_length_of}
 use Rattle.book_segments.proofs.SocketLaws.{same_address_is, same_socket_is}
 

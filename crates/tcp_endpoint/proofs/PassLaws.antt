@@ -13,10 +13,10 @@ use Rattle.book_endpoint.specs.Arrivals as book
 use Rattle.endpoint_steps.specs.Arriving as stages
 use Rattle.ao_check.specs.Bonds.{Bond}
 use Rattle.ao_check.specs.declared.passing.Passing.{Passing}
-use Rattle.ao_check.specs.Verdicts.{IsRefusal, Names, Tells}
-use Rattle.book_endpoint.specs.declared.verdict.Passed.{Passed}
-use Rattle.book_endpoint.specs.declared.verdict.Verdict.{Verdict}
-use Rattle.book_endpoint.specs.declared.verdict.Verdict.TheVariants as checked
+use Rattle.ao_check.specs.Verdicts.{Names, Tells}
+use Rattle.book_endpoint.specs.declared.passed.Passed.{Passed}
+use Rattle.book_endpoint.specs.declared.refusal.Refusal.{Refusal}
+use Rattle.book_endpoint.specs.declared.refusal.Refusal.TheVariants as checked
 use Rattle.book_endpoint.specs.declared.arrival.Arrival.{Arrival}
 use Rattle.book_endpoint.specs.declared.arrival.Arrival.TheVariants as answers
 use Rattle.endpoint_steps.proofs.Arriving.{read_by_cases}
@@ -50,7 +50,7 @@ arrives_pass rows pair now s d entry e a p id n peer right alive j i m reach nam
     let at : Arrives rows pair (Read d) e (record { arrival = a; passed = Some p }) (stages.arrive_judged rows pair now s d (Ok entry)) = record { stands = there.stands; answer = there.answer_is; passed = names } in
     subst (λ z. Arrives rows pair (Read d) e (record { arrival = a; passed = Some p }) z) (sym (judged rows pair now s d (Ok entry) peer right alive j)) at
 
-refused_at : (rows : List Row) (pair : Pair) (now : ℕ) (s : states.EndState) (d : Segment) (e : Endpoint) (w : Verdict)
+refused_at : (rows : List Row) (pair : Pair) (now : ℕ) (s : states.EndState) (d : Segment) (e : Endpoint) (w : Refusal)
     → book.from_peer pair d ≡ true → good d ≡ true → states.is_closed s.phase ≡ false → book.judged_by rows pair now s d ≡ Err w
     → Stands e s
     → Arrives rows pair (Read d) e (record { arrival = answers.Refused w; passed = None }) (book.arrive rows pair now s (Read d))
@@ -58,23 +58,11 @@ refused_at rows pair now s d e w peer right alive j st =
     let at : Arrives rows pair (Read d) e (record { arrival = answers.Refused w; passed = None }) (stages.arrive_judged rows pair now s d (Err w)) = record { stands = st; answer = refl; passed = tt } in
     subst (λ z. Arrives rows pair (Read d) e (record { arrival = answers.Refused w; passed = None }) z) (sym (judged rows pair now s d (Err w) peer right alive j)) at
 
-pub arrives_refused : {e : Endpoint} (rows : List Row) (pair : Pair) (now : ℕ) (s : states.EndState) (d : Segment) (w : Verdict) (told : Arrived) → told ≡ record { arrival = answers.Refused w; passed = None }
+pub arrives_refused : {e : Endpoint} (rows : List Row) (pair : Pair) (now : ℕ) (s : states.EndState) (d : Segment) (w : Refusal) (told : Arrived) → told ≡ record { arrival = answers.Refused w; passed = None }
     → book.from_peer pair d ≡ true → good d ≡ true → states.is_closed s.phase ≡ false → book.judged_by rows pair now s d ≡ Err w
     → Stands e s → Arrives rows pair (Read d) e told (book.arrive rows pair now s (Read d))
 arrives_refused {e} rows pair now s d w told q peer right alive j st =
     subst (λ z. Arrives rows pair (Read d) e z (book.arrive rows pair now s (Read d))) (sym q) (refused_at rows pair now s d e w peer right alive j st)
-
-pub refused_by : (rows : List Row) (pair : Pair) (d : Segment) (c : Verdict) (w : v.Judgement) → IsRefusal c → Tells rows pair d c w → w ≡ Err c
-refused_by rows pair d (checked.Pass x) w n t = absurd n
-refused_by rows pair d checked.NoAo w n t = t
-refused_by rows pair d checked.TwoAo w n t = t
-refused_by rows pair d checked.WithMd5 w n t = t
-refused_by rows pair d checked.NoTuple w n t = t
-refused_by rows pair d checked.Expired w n t = t
-refused_by rows pair d checked.MacLength w n t = t
-refused_by rows pair d checked.NoContext w n t = t
-refused_by rows pair d checked.Range w n t = t
-refused_by rows pair d checked.BadMac w n t = t
 
 expected_case : (peer_isn : Option ℕ) (s : states.EndState) (o : Option ℕ) → (is_some peer_isn ≡ true → o ≡ Some s.expected) → (is_some peer_isn ≡ false → o ≡ None) → o ≡ book.number_expected s peer_isn
 expected_case None s o some none = none refl

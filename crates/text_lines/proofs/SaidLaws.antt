@@ -6,12 +6,12 @@ use Rattle.book_lines.specs.declared.text_fault.TextFault.TheVariants as fault
 use Rattle.book_lines.specs.Lines.{Line}
 use Rattle.book_lines.specs.Said.{Said, at_number, said_by}
 use Rattle.book_base.specs.Results.{◌>>=◌}
-use Rattle.text_lines.specs.declared.refusal.Refusal.{Refusal}
-use Rattle.text_lines.specs.declared.refusal.Refusal.TheVariants as refusal
+use Rattle.text_lines.specs.declared.word_problem.WordProblem.{WordProblem}
+use Rattle.text_lines.specs.declared.word_problem.WordProblem.TheVariants as refusal
 use Rattle.text_lines.specs.Readings.{Fails, Tells, fault_at}
 
 -- a line that isn't read fails as it says, at its number
-pub fails_at : {A : Type 0} (n : ℕ) (r : Refusal) (said : Result A LineKind) → Tells (Err r) said → Fails (fault_at n r) (at_number n said)
+pub fails_at : {A : Type 0} (n : ℕ) (r : WordProblem) (said : Result A LineKind) → Tells (Err r) said → Fails (fault_at n r) (at_number n said)
 fails_at n refusal.Memory said h = tt
 fails_at n (refusal.Kind kind) (Ok x) h = absurd (cc h)
 fails_at n (refusal.Kind kind) (Err e) h = ap (λ (s : Result _ LineKind). at_number n s) h

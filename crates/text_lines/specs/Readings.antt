@@ -4,8 +4,8 @@ use Rattle.book_lines.specs.declared.line_kind.LineKind.{LineKind}
 use Rattle.book_lines.specs.declared.text_fault.TextFault.{TextFault}
 use Rattle.book_lines.specs.declared.text_fault.TextFault.TheVariants as fault
 use Rattle.book_lines.specs.Words.{Taken}
-use Rattle.text_lines.specs.declared.refusal.Refusal.{Refusal}
-use Rattle.text_lines.specs.declared.refusal.Refusal.TheVariants as refusal
+use Rattle.text_lines.specs.declared.word_problem.WordProblem.{WordProblem}
+use Rattle.text_lines.specs.declared.word_problem.WordProblem.TheVariants as refusal
 
 -- what a reading of words answered, with the words that are left
 abbrev pub gives : {A F : Type 0} → Result A F → List (List ℕ) → Result (Taken A) F
@@ -13,13 +13,13 @@ gives (Ok x) rest = Ok (record { value = x; rest = rest })
 gives (Err e) rest = Err e
 
 -- what a reading of words that takes memory answered is what they say, unless memory ran out
-abbrev pub Tells : {A : Type 0} → Result A Refusal → Result A LineKind → Type 0
+abbrev pub Tells : {A : Type 0} → Result A WordProblem → Result A LineKind → Type 0
 Tells (Ok x) said = said ≡ Ok x
 Tells (Err refusal.Memory) said = Unit {0}
 Tells (Err (refusal.Kind kind)) said = said ≡ Err kind
 
 -- why a line isn't read, with its number
-abbrev pub fault_at : ℕ → Refusal → TextFault
+abbrev pub fault_at : ℕ → WordProblem → TextFault
 fault_at n refusal.Memory = fault.Memory
 fault_at n (refusal.Kind kind) = fault.Line n kind
 

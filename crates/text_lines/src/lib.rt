@@ -6,15 +6,15 @@
 mod fault;
 mod line_words;
 mod lines;
-mod refusal;
 mod said_lines;
 mod texts;
+mod word_problem;
 
 pub use fault::print_fault;
 pub use line_words::LineWords;
 pub use lines::count_lines;
-pub use refusal::Refusal;
 pub use said_lines::{Saying, SayingLines};
 pub use texts::{
     push_bytes, push_end, push_field, push_newline, push_number, push_socket, push_text,
 };
+pub use word_problem::WordProblem;

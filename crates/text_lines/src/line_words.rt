@@ -6,7 +6,7 @@ ghost use Rattle.book_lines.specs.Words.{address_in, socket_in, algorithm_in, nu
 ghost use Rattle.book_lines.specs.Words.{some_hex_in, byte_in};
 ghost use Rattle.text_lines.specs.Readings.{gives, Tells};
 
-use crate::refusal::Refusal;
+use crate::word_problem::WordProblem;
 use ao_base::{HexProblem, next_word, read_address, read_decimal, read_hex};
 use book_base::{Address, Algorithm, Bytes, End, Socket};
 use book_lines::LineKind;
@@ -156,20 +156,25 @@ impl<'a> LineWords<'a> {
 
     /// Bytes in hexadecimal; `Hex` for another word.
     #[tactic(auto, unfolding(book_lines::specs::Words::hex_in))]
-    pub fn hex(&mut self, alloc: Global) -> Result<Bytes, Refusal>
+    pub fn hex(&mut self, alloc: Global) -> Result<Bytes, WordProblem>
         ensures { Tells (gives result self.new) (hex_in self.old) }
     {
         let word = self.word()?;
         match read_hex(alloc, word) {
             Ok(bytes) => Ok(bytes),
-            Err(HexProblem::Memory) => Err(Refusal::Memory),
-            Err(HexProblem::NotHex) => Err(Refusal::Kind(LineKind::Hex)),
+            Err(HexProblem::Memory) => Err(WordProblem::Memory),
+            Err(HexProblem::NotHex) => Err(WordProblem::Kind(LineKind::Hex)),
         }
     }
 
     /// Bytes in hexadecimal, from `low` to `high` of them; `Range` for another number of them.
     #[tactic(auto, unfolding(book_lines::specs::Words::sized_hex_in))]
-    pub fn sized_hex(&mut self, alloc: Global, low: usize, high: usize) -> Result<Bytes, Refusal>
+    pub fn sized_hex(
+        &mut self,
+        alloc: Global,
+        low: usize,
+        high: usize,
+    ) -> Result<Bytes, WordProblem>
         ensures read { Tells (gives result self.new) (sized_hex_in low high self.old) }
         ensures least { IfOk result (λ bytes. low ≤ length bytes) }
         ensures most { IfOk result (λ bytes. length bytes ≤ high) }
@@ -179,18 +184,18 @@ impl<'a> LineWords<'a> {
         if low <= length && length <= high {
             Ok(bytes)
         } else {
-            Err(Refusal::Kind(LineKind::Range))
+            Err(WordProblem::Kind(LineKind::Range))
         }
     }
 
     /// Bytes in hexadecimal, at least one; `Range` for none.
     #[tactic(auto, unfolding(book_lines::specs::Words::some_hex_in))]
-    pub fn some_hex(&mut self, alloc: Global) -> Result<Bytes, Refusal>
+    pub fn some_hex(&mut self, alloc: Global) -> Result<Bytes, WordProblem>
         ensures { Tells (gives result self.new) (some_hex_in self.old) }
     {
         let bytes = self.hex(alloc)?;
         if bytes.as_slice().is_empty() {
-            Err(Refusal::Kind(LineKind::Range))
+            Err(WordProblem::Kind(LineKind::Range))
         } else {
             Ok(bytes)
         }
@@ -198,7 +203,7 @@ impl<'a> LineWords<'a> {
 
     /// A byte as two digits in hexadecimal.
     #[tactic(auto, unfolding(book_lines::specs::Words::byte_in))]
-    pub fn byte(&mut self, alloc: Global) -> Result<u8, Refusal>
+    pub fn byte(&mut self, alloc: Global) -> Result<u8, WordProblem>
         ensures { Tells (gives result self.new) (byte_in self.old) }
     {
         let bytes = self.sized_hex(alloc, 1, 1)?;

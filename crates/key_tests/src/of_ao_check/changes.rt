@@ -5,7 +5,7 @@ ghost use Rattle.ao_check.specs.Bonds.{Bond, Fits};
 use super::passes::PAST_A_LAP;
 use super::{LOCAL, PAIR, REMOTE, add, arriving};
 use ao_base::Steps;
-use ao_check::{Association, Verdict};
+use ao_check::{Association, Passed, Refusal};
 use book_base::{Algorithm, Pair};
 use key_table::{NoRow, Table};
 use std::alloc::Global;
@@ -26,7 +26,7 @@ fn past_a_lap<L: Ledger>(
     association: &mut Association,
     table: &Table,
     steps: &mut Steps<L>,
-) -> Option<Verdict>
+) -> Option<Result<Passed, Refusal>>
     requires fits { Fits table.now.rows association.old }
     requires pair { association.old.pair ≡ PAIR }
     requires peer { association.old.peer ≡ Some 100 }
@@ -42,7 +42,10 @@ fn past_a_lap<L: Ledger>(
 }
 
 /// What one association says of the segment before its row is added, then, and once it is withdrawn.
-fn changes<L: Ledger>(alloc: Global, blank: Blank) -> Result<[Option<Verdict>; 3], Fail>
+fn changes<L: Ledger>(
+    alloc: Global,
+    blank: Blank,
+) -> Result<[Option<Result<Passed, Refusal>>; 3], Fail>
     requires name { blank.name ≡ L.name }
     requires parts { blank.parts ≡ L.parts }
     requires part { 0 < blank.parts }
@@ -62,9 +65,9 @@ fn changes<L: Ledger>(alloc: Global, blank: Blank) -> Result<[Option<Verdict>; 3
 #[test]
 fn a_row_takes_once_added_and_refuses_once_withdrawn(rt: HostRuntime) -> Result<(), Fail> {
     let [before, added, withdrawn] = changes::<Brand>(rt.alloc(), Blank::new(1))?;
-    assert!(rt; before == Some(Verdict::NoTuple));
-    assert!(rt; matches!(added, Some(Verdict::Pass(_))));
-    assert!(rt; withdrawn == Some(Verdict::NoTuple));
+    assert!(rt; before == Some(Err(Refusal::NoTuple)));
+    assert!(rt; matches!(added, Some(Ok(_))));
+    assert!(rt; withdrawn == Some(Err(Refusal::NoTuple)));
     Ok(())
 }
 

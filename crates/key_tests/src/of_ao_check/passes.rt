@@ -1,7 +1,7 @@
 //! Segments that were signed elsewhere: by RFC 9235, and by `oracle/vectors_check.py`, a program on
 //! Python's `hmac` alone. Their master key is `testvector`.
 use super::{END, LAST, PAIR, four_rows, verdict};
-use ao_check::Verdict;
+use ao_check::{Passed, Refusal};
 use book_base::{Address, Pair, Socket};
 use key_table::Table;
 use std::alloc::{AllocError, Global};
@@ -80,9 +80,9 @@ const RESET: [u8; 60] = [
 ];
 
 /// Row and number of a segment that passed.
-fn place(verdict: Option<Verdict>) -> Option<(u8, u64)> {
+fn place(verdict: Option<Result<Passed, Refusal>>) -> Option<(u8, u64)> {
     match verdict {
-        Some(Verdict::Pass(passed)) => Some((passed.row, passed.number)),
+        Some(Ok(passed)) => Some((passed.row, passed.number)),
         _ => None,
     }
 }
@@ -93,7 +93,7 @@ fn seen(
     table: &Table,
     expected: u64,
     bytes: &[u8],
-) -> Result<Option<Verdict>, AllocError> {
+) -> Result<Option<Result<Passed, Refusal>>, AllocError> {
     verdict(alloc, table, PAIR, 0, Some(expected), bytes)
 }
 
@@ -113,7 +113,7 @@ fn a_first_segment_passes_up_to_the_last_second(rt: HostRuntime) -> Result<(), F
     let seen = verdict(rt.alloc(), &table, BGP, LAST, None, &SYN_HMAC)?;
     assert!(rt; place(seen) == Some((1, 0xfbfb_ab5a)));
     let seen = verdict(rt.alloc(), &table, BGP, LAST + 1, None, &SYN_HMAC)?;
-    assert!(rt; seen == Some(Verdict::Expired));
+    assert!(rt; seen == Some(Err(Refusal::Expired)));
     Ok(())
 }
 
@@ -140,10 +140,12 @@ fn numbers_go_over_laps_and_end_at_2_to_63(rt: HostRuntime) -> Result<(), Fail> 
 #[test]
 fn another_lap_is_refused_and_so_are_numbers_past_the_ends(rt: HostRuntime) -> Result<(), Fail> {
     let table = four_rows(rt.alloc())?;
-    assert!(rt; seen(rt.alloc(), &table, 5, &PAST_A_LAP)? == Some(Verdict::BadMac));
-    assert!(rt; seen(rt.alloc(), &table, 2 * LAP - 1, &BEFORE_A_LAP)? == Some(Verdict::BadMac));
-    assert!(rt; seen(rt.alloc(), &table, END, &PAST_THE_END)? == Some(Verdict::Range));
-    assert!(rt; seen(rt.alloc(), &table, 0, &BEFORE_A_LAP)? == Some(Verdict::Range));
+    assert!(rt; seen(rt.alloc(), &table, 5, &PAST_A_LAP)? == Some(Err(Refusal::BadMac)));
+    assert!(rt;
+        seen(rt.alloc(), &table, 2 * LAP - 1, &BEFORE_A_LAP)? == Some(Err(Refusal::BadMac))
+    );
+    assert!(rt; seen(rt.alloc(), &table, END, &PAST_THE_END)? == Some(Err(Refusal::Range)));
+    assert!(rt; seen(rt.alloc(), &table, 0, &BEFORE_A_LAP)? == Some(Err(Refusal::Range)));
     let reset = seen(rt.alloc(), &table, LAP, &RESET)?;
     assert!(rt; place(reset) == Some((3, LAP + 5)));
     Ok(())

@@ -1,7 +1,7 @@
 //! Each refusal in front of those behind it. The segments are over IPv6 and have 40 bytes of
 //! options; their MACs are wrong.
 use super::{END, LAST, four_rows, verdict};
-use ao_check::Verdict;
+use ao_check::{Passed, Refusal};
 use book_base::{Address, Pair, Socket};
 use key_table::Table;
 use std::alloc::{AllocError, Global};
@@ -61,11 +61,11 @@ fn segment(flags: u8, area: &[u8; 40]) -> [u8; 100] {
     bytes
 }
 
-/// What is said of the same segment with SYN, whose context and number are always known.
-fn with_syn(verdict: Verdict) -> Verdict {
-    match verdict {
-        Verdict::NoContext => Verdict::BadMac,
-        Verdict::Range => Verdict::BadMac,
+/// Why the same segment is refused with SYN, whose context and number are always known.
+fn with_syn(why: Refusal) -> Refusal {
+    match why {
+        Refusal::NoContext => Refusal::BadMac,
+        Refusal::Range => Refusal::BadMac,
         other => other,
     }
 }
@@ -78,7 +78,7 @@ fn seen(
     expected: Option<u64>,
     flags: u8,
     area: &[u8; 40],
-) -> Result<Option<Verdict>, AllocError> {
+) -> Result<Option<Result<Passed, Refusal>>, AllocError> {
     verdict(alloc, table, PAIR, now, expected, &segment(flags, area))
 }
 
@@ -89,44 +89,44 @@ fn the_first_fault_is_told(rt: HostRuntime) -> Result<(), Fail> {
     let late = Some(END);
     let near = Some(5);
     let cases = [
-        (area(&[], &MD5), 0, None, Verdict::NoAo),
-        (area(&[], &MD5), 0, late, Verdict::NoAo),
+        (area(&[], &MD5), 0, None, Refusal::NoAo),
+        (area(&[], &MD5), 0, late, Refusal::NoAo),
         (
             area(&[29, 4, 9, 0, 29, 4, 9, 0], &MD5),
             0,
             None,
-            Verdict::TwoAo,
+            Refusal::TwoAo,
         ),
         (
             area(&[29, 4, 1, 0, 29, 4, 1, 0], &MD5),
             LAST + 1,
             late,
-            Verdict::TwoAo,
+            Refusal::TwoAo,
         ),
-        (area(&[29, 4, 9, 0], &MD5), 0, None, Verdict::WithMd5),
-        (area(&[29, 4, 1, 0], &MD5), LAST + 1, late, Verdict::WithMd5),
-        (area(&[29, 4, 9, 0], &[]), 0, None, Verdict::NoTuple),
-        (area(&[29, 4, 9, 0], &[]), 0, late, Verdict::NoTuple),
-        (area(&[29, 4, 1, 0], &[]), LAST + 1, None, Verdict::Expired),
-        (area(&[29, 4, 1, 0], &[]), LAST + 1, late, Verdict::Expired),
-        (area(&[29, 4, 1, 0], &[]), LAST, None, Verdict::MacLength),
-        (area(&[29, 4, 1, 0], &[]), LAST, late, Verdict::MacLength),
-        (area(&[29, 16, 3, 3], &[0; 12]), 0, late, Verdict::MacLength),
-        (area(&[29, 20, 1, 1], &[0; 16]), 0, late, Verdict::MacLength),
-        (area(&TWELVE, &[]), LAST, None, Verdict::NoContext),
-        (area(&TWELVE, &[]), LAST, late, Verdict::Range),
-        (area(&TWELVE, &[]), LAST, near, Verdict::BadMac),
-        (area(&SIXTEEN, &[]), LAST, near, Verdict::BadMac),
+        (area(&[29, 4, 9, 0], &MD5), 0, None, Refusal::WithMd5),
+        (area(&[29, 4, 1, 0], &MD5), LAST + 1, late, Refusal::WithMd5),
+        (area(&[29, 4, 9, 0], &[]), 0, None, Refusal::NoTuple),
+        (area(&[29, 4, 9, 0], &[]), 0, late, Refusal::NoTuple),
+        (area(&[29, 4, 1, 0], &[]), LAST + 1, None, Refusal::Expired),
+        (area(&[29, 4, 1, 0], &[]), LAST + 1, late, Refusal::Expired),
+        (area(&[29, 4, 1, 0], &[]), LAST, None, Refusal::MacLength),
+        (area(&[29, 4, 1, 0], &[]), LAST, late, Refusal::MacLength),
+        (area(&[29, 16, 3, 3], &[0; 12]), 0, late, Refusal::MacLength),
+        (area(&[29, 20, 1, 1], &[0; 16]), 0, late, Refusal::MacLength),
+        (area(&TWELVE, &[]), LAST, None, Refusal::NoContext),
+        (area(&TWELVE, &[]), LAST, late, Refusal::Range),
+        (area(&TWELVE, &[]), LAST, near, Refusal::BadMac),
+        (area(&SIXTEEN, &[]), LAST, near, Refusal::BadMac),
     ];
     for (area, now, expected, wanted) in cases {
         // Plain, with RST, and with FIN.
         for flags in [0x10, 0x14, 0x11] {
             let seen = seen(rt.alloc(), &table, now, expected, flags, &area)?;
-            assert!(rt; seen == Some(wanted));
+            assert!(rt; seen == Some(Err(wanted)));
         }
         for flags in [0x02, 0x12] {
             let seen = seen(rt.alloc(), &table, now, expected, flags, &area)?;
-            assert!(rt; seen == Some(with_syn(wanted)));
+            assert!(rt; seen == Some(Err(with_syn(wanted))));
         }
     }
     Ok(())

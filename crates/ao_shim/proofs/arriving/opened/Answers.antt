@@ -9,7 +9,7 @@ use Rattle.book_shim.specs.Arriving.{judged_arrival, handed_on, admitted}
 use Rattle.ao_shim.specs.Guards.{AreLow}
 use Rattle.ao_shim.proofs.KeptLaws.{admitted_low, past_heard_low, idle_counted, Counts, counts_same}
 use Rattle.ao_shim.proofs.InLaws.{unread, foreign_source, foreign_destination, from_peer_is, unkeyed, wrong_sum, refused_as, taken_as}
-use Rattle.ao_shim.proofs.TakenLaws.{passed, heard_is, coming_less, less_told, refusal_is}
+use Rattle.ao_shim.proofs.TakenLaws.{passed, heard_is, coming_less, less_told}
 use Rattle.ao_shim.proofs.SealLaws.{read_fits, read_room, read_same}
 use Rattle.ao_shim.proofs.arriving.opened.Goals as goal
 
@@ -53,7 +53,7 @@ returns-in-Err-judged-clause-refused g c =
     let destination : same_socket c.in-Ok.datagram.destination c.args.pair.now.local ≡ true = ap (λ (s : Socket). same_socket s c.args.pair.now.local) (sym c.destination.ensures.value) ∙ (sym c.is_same_socket-2.ensures.told ∙ c.if-not-is_same_socket-2.false) in
     let keyed : is_keyed c.args.table.now.rows c.args.pair.now ≡ true = sym c.is_keyed.ensures ∙ c.if-not-is_keyed.false in
     let right : good c.in-Ok.datagram ≡ true = sym c.checksum_ok.ensures ∙ c.if-not-checksum_ok.false in
-    from_peer_is (record { rows = c.args.table.now.rows; now = c.args.now; mtu = c.args.mtu }) c.args.pair.now c.args.before.now c.args.bytes.now c.in-Ok.datagram read source destination ∙ refused_as (record { rows = c.args.table.now.rows; now = c.args.now; mtu = c.args.mtu }) c.args.pair.now c.args.before.now c.in-Ok.datagram c.in-Err-judged.verdict keyed right (refusal_is c.args.table.now.rows c.args.pair.now c.in-Ok.datagram c.in-Err-judged.verdict (judged_arrival (record { rows = c.args.table.now.rows; now = c.args.now; mtu = c.args.mtu }) c.args.pair.now c.args.before.now c.in-Ok.datagram) c.in-Err-judged.ensures.refusal (c.in-Err-judged.ensures.verdict c.args.mtu))
+    from_peer_is (record { rows = c.args.table.now.rows; now = c.args.now; mtu = c.args.mtu }) c.args.pair.now c.args.before.now c.args.bytes.now c.in-Ok.datagram read source destination ∙ refused_as (record { rows = c.args.table.now.rows; now = c.args.now; mtu = c.args.mtu }) c.args.pair.now c.args.before.now c.in-Ok.datagram c.in-Err-judged.verdict keyed right (c.in-Err-judged.ensures.verdict c.args.mtu)
 
 pub judged-requires-clause-source : goal.judged-requires-clause-source
 judged-requires-clause-source g c =

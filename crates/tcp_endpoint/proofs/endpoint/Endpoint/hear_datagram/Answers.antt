@@ -6,7 +6,7 @@ use Rattle.tcp_endpoint.proofs.ReadyLaws.{nothing_known, something_known}
 use Rattle.book_endpoint.specs.declared.arrival.Arrival.TheVariants.{Foreign, Closed, Refused}
 use Rattle.tcp_endpoint.proofs.CostLaws.{early_costs, refused_costs, untold, none_before, passed_costs}
 use Rattle.tcp_endpoint.proofs.JudgeLaws.{number_first, number_near}
-use Rattle.tcp_endpoint.proofs.PassLaws.{arrives_pass, arrives_refused, refused_by, judged_is, rnext_is, number_is, stopped}
+use Rattle.tcp_endpoint.proofs.PassLaws.{arrives_pass, arrives_refused, judged_is, rnext_is, number_is, stopped}
 use Rattle.tcp_endpoint.proofs.endpoint.Endpoint.hear_datagram.Goals as goal
 
 pub returns-in-Err-clause-arrives : goal.returns-in-Err-clause-arrives
@@ -14,7 +14,7 @@ returns-in-Err-clause-arrives g c = λ s h.
     let e = c.args.self.now in
     let d = c.args.datagram.now in
     let rows = c.args.table.now.rows in
-    let told = refused_by rows e.association.pair d c.in-Err.verdict _ c.in-Err.ensures.refusal c.in-Err.ensures.verdict in
+    let told = c.in-Err.ensures.verdict in
     let judged = sym (judged_is rows e s c.args.now d c.expected_of-expected.result h c.expected_of-expected.ensures.some c.expected_of-expected.ensures.none) ∙ told in
     arrives_refused rows e.pair c.args.now s d c.in-Err.verdict c.without-in-Err.result c.without-in-Err.ensures (sym c.if-not-is_from_peer.ensures.told) (sym c.if-not-checksum_ok.ensures) (ap Rattle.book_endpoint.specs.States.is_closed (sym h.phase) ∙ sym c.if-is_closed.ensures) judged
     (record {

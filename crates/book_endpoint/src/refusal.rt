@@ -1,20 +1,8 @@
-//! What the check says of a segment.
+//! Why the check refuses a segment.
 
-use book_macs::Context;
-
-/// What is told of a segment that passed: the row of the table under which it did, counted from 1,
-/// its number in the stream, and the context of its traffic key.
+/// The first reason to refuse a segment in the order of the tests (RFC 5925, section 7.5).
 #[derive(Clone, Copy, Debug, PartialEq, Eq)]
-pub struct Passed {
-    pub row: u8,
-    pub number: u64,
-    pub context: Context,
-}
-
-/// A pass, or the first reason to refuse a segment in the order of the tests (RFC 5925, section 7.5).
-#[derive(Clone, Copy, Debug, PartialEq, Eq)]
-pub enum Verdict {
-    Pass(Passed),
+pub enum Refusal {
     /// No TCP-AO option.
     NoAo,
     /// More than one TCP-AO option.
