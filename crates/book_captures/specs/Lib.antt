@@ -1,5 +1,6 @@
 pub mod BlockContents
 pub mod Blocks
+pub mod CaptureFiles
 pub mod Captures
 pub mod Frames
 pub mod Parts
