@@ -1,5 +1,5 @@
 -- The work of an arrival.
-use Rattle.std.proofs.Common.{◌≡◌, ◌≤◌, ◌<◌, ◌+◌, ℕ, Bool, true, false, length, List, Option, Some, None, refl, sym, subst, arith}
+use Rattle.std.proofs.Common.{◌≡◌, ◌≤◌, ◌<◌, ◌+◌, ℕ, Bool, true, false, length, List, Option, Some, None, Err, refl, sym, subst, arith}
 use Rattle.book_base.specs.declared.address.Pair.{Pair}
 use Rattle.book_segments.specs.Options.{find_ao}
 use Rattle.book_segments.specs.Segments.{Segment, Reading, Read, has, SYN}
@@ -77,12 +77,12 @@ early_costs rows now e d a told old q =
 -- a refusal is told of what the check says, and its work is the check's
 pub refused_costs : {after : Endpoint} (rows : List Row) (now : ℕ) (e : Endpoint) (d : Segment) (w : Refusal) (told : Arrived) (pair : Pair) (old new : ℕ)
     → told ≡ record { arrival = answers.Refused w; passed = None } → pair ≡ e.pair
-    → Counted e.association.keys after.association.keys (judging rows pair now (find_ao d.area)) (is_judged w) Inbound (has SYN d) old new
+    → Counted e.association.keys after.association.keys (judging rows pair now (find_ao d.area)) (is_judged (Err w)) Inbound (has SYN d) old new
     → Costs rows now d e after told old new
 refused_costs {after} rows now e d w told pair old new q p k =
     let at : Costs rows now d e after (record { arrival = answers.Refused w; passed = None }) old new = record {
       checked = new;
-      counted = subst (λ (z : Pair). Counted e.association.keys after.association.keys (judging rows z now (find_ao d.area)) (is_judged w) Inbound (has SYN d) old new) p k;
+      counted = subst (λ (z : Pair). Counted e.association.keys after.association.keys (judging rows z now (find_ao d.area)) (is_judged (Err w)) Inbound (has SYN d) old new) p k;
       links = omega arith;
       refused = λ _. refl;
       bare = λ _. refl;

@@ -1,5 +1,5 @@
 -- What an end answers to an arrival, as the definitions answer.
-use Rattle.std.specs.Prelude.{◌≡◌, ◌+◌, ◌≤◌, ◌<◌, ◌^◌, Bool, true, false, length, ℕ, List, Option, Some, None, ⊤}
+use Rattle.std.specs.Prelude.{◌≡◌, ◌+◌, ◌≤◌, ◌<◌, ◌^◌, Bool, true, false, length, ℕ, List, Option, Some, None, Err, ⊤}
 use Rattle.book_base.specs.declared.address.Pair.{Pair}
 use Rattle.book_segments.specs.Options as options
 use Rattle.book_segments.specs.Segments.{Reading, Read, Segment, has, FIN, SYN, segment_length}
@@ -80,7 +80,7 @@ is_computed (answers.Bad fault) = false
 is_computed answers.Foreign = false
 is_computed answers.Checksum = false
 is_computed answers.Closed = false
-is_computed (answers.Refused why) = is_judged why
+is_computed (answers.Refused why) = is_judged (Err why)
 is_computed _ = true
 
 -- the work of an arrival: that on its MAC, and behind it at most 65 links of the received runs, none where nothing passed or came with it
