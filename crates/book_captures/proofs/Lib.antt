@@ -1,6 +1,5 @@
 pub mod BlockLaws
 pub mod CaptureLaws
-pub mod FilesLaws
 pub mod Fronts
 pub mod Passing
 pub mod PcapCaptures

@@ -20,7 +20,7 @@ use Rattle.book_captures.specs.declared.pcap_head.Resolution.{Resolution}
 use Rattle.book_captures.specs.declared.pcap_head.Resolution.TheVariants.{Microseconds, Nanoseconds}
 use Rattle.book_captures.specs.PcapFiles.{pcap_magic, resolution_by, head_for, pcap_head, IsPcapHead, KeptPacket, pcap_record_at, ArePcapRecords, IsPcapFile}
 use Rattle.book_captures.specs.Parts.{Shows, FilePlace, Part, record_part, part_at, capture_opened, is_pcapng}
-use Rattle.book_captures.specs.Captures.{CapturePacket, Capture, PartCounts, further, with_said, capture_at, capture_behind_packets, capture_of}
+use Rattle.book_captures.specs.Captures.{CapturePacket, Capture, PartCounts, further, with_said, capture_at, capture_of}
 use Rattle.book_captures.specs.WholeFiles.{packets_kept, records_size, capture_kept, capture_broken}
 use Rattle.book_captures.proofs.Fronts.{two_front, four_front}
 use Rattle.book_captures.proofs.RecordLaws.{record_read, record_found}
@@ -304,12 +304,12 @@ begins head front rest file parts h all =
 -- the capture behind a header
 pub behind_it : (file : List ℕ) (head : PcapHead) → is_pcapng file ≡ false → pcap_head file ≡ Ok head
     → capture_of file ≡ capture_at (among head) (record { packets = 0; parts = 0; bytes = 24 }) (drop 24 file)
-unfolding capture_of capture_behind_packets capture_opened
+unfolding capture_of capture_opened
 behind_it file head classic says = rw (classic, says) refl
 
 refused : (file : List ℕ) (why : PcapHeadFault) → is_pcapng file ≡ false → pcap_head file ≡ Err why
     → capture_of file ≡ record { packets = []; passed = 0; fault = Some (record { cause = cause.Head why; number = 0; byte = 0 }) }
-unfolding capture_of capture_behind_packets capture_opened
+unfolding capture_of capture_opened
 refused file why classic says = rw (classic, says) refl
 
 -- records behind a header, and nothing more

@@ -10,7 +10,7 @@ use Rattle.book_captures.specs.declared.capture_parts.Format.TheVariants.{Pcapng
 use Rattle.book_captures.specs.Blocks.{Block, block_at}
 use Rattle.book_captures.specs.PcapngFiles.{Blocks, block_length, blocks_by, blocks_from, blocks_of}
 use Rattle.book_captures.specs.Parts.{PartSaid, block_said, Part, said_part, block_part, interfaces_behind, OpenedFile, capture_opened, is_pcapng}
-use Rattle.book_captures.specs.Captures.{PartCounts, further, with_said, ended, capture_by, capture_from, capture_behind, capture_behind_packets, capture_of}
+use Rattle.book_captures.specs.Captures.{PartCounts, further, with_said, ended, capture_by, capture_from, capture_behind, capture_of}
 use Rattle.book_captures.specs.WholeFiles.{capture_in, capture_in_blocks}
 use Rattle.book_captures.proofs.BlockLaws.{block_found}
 use Rattle.book_captures.proofs.CaptureLaws.{block_size}
@@ -68,7 +68,7 @@ opens true file e t = rw e refl
 opens false file e t = absurd (cc)
 
 pub in_blocks : (file : List ℕ) → is_pcapng file ≡ true → capture_of file ≡ capture_in_blocks (blocks_of file)
-unfolding capture_of capture_behind_packets blocks_of
+unfolding capture_of blocks_of
 in_blocks file e =
-    ap (λ (r : Result OpenedFile Cause). capture_behind 0 r file) (opens true file e refl)
+    ap (λ (r : Result OpenedFile Cause). capture_behind r file) (opens true file e refl)
     ∙ alike (length file) None [] (record { packets = 0; parts = 0; bytes = 0 }) 1 0 file

@@ -89,22 +89,17 @@ capture_from (suc k) place counts text = if length text == 0 then ended
 abbrev pub capture_at : FilePlace → PartCounts → List ℕ → Capture
 capture_at place counts text = capture_from (length text) place counts text
 
--- the parts behind a header, the packets numbered behind so many; a header that is refused is part
--- 0 (own)
-abbrev pub capture_behind : ℕ → Result OpenedFile Cause → List ℕ → Capture
-capture_behind packets (Err why) file = record {
+-- the parts behind a header; a header that is refused is part 0 (own)
+abbrev pub capture_behind : Result OpenedFile Cause → List ℕ → Capture
+capture_behind (Err why) file = record {
   packets = [];
   passed = 0;
   fault = Some (record { cause = why; number = 0; byte = 0 });
 }
-capture_behind packets (Ok front) file = capture_at front.place
-    (record { packets = packets; parts = 0; bytes = front.size })
+capture_behind (Ok front) file = capture_at front.place
+    (record { packets = 0; parts = 0; bytes = front.size })
     (drop front.size file)
-
--- the capture in a file, its packets numbered behind so many (own)
-unfoldable pub capture_behind_packets : ℕ → List ℕ → Capture
-capture_behind_packets packets file = capture_behind packets (capture_opened file) file
 
 -- the capture in a file (own)
 unfoldable pub capture_of : List ℕ → Capture
-capture_of file = capture_behind_packets 0 file
+capture_of file = capture_behind (capture_opened file) file

@@ -1,6 +1,5 @@
 pub mod BlockContents
 pub mod Blocks
-pub mod CaptureFiles
 pub mod Captures
 pub mod Frames
 pub mod Parts

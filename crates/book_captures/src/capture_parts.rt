@@ -35,12 +35,3 @@ pub struct CaptureFault {
     /// Where it begins in the file, from 0 on.
     pub byte: u64,
 }
-
-/// Where and why the reading of several files, as one capture, ends early.
-#[derive(Clone, Copy, Debug, PartialEq, Eq)]
-pub struct FileFault {
-    /// The number of the file, from 1 on.
-    pub file: u64,
-    /// Where and why the reading of that file ends early.
-    pub fault: CaptureFault,
-}

@@ -1,14 +1,12 @@
 //! The laws above the frames of a link, and above the records and blocks of a file.
-ghost use Rattle.std.specs.Prelude.{◌≡◌, ℕ, ◌+◌, ◌∷◌, ◌<◌, true, false, List, [], ◌++◌, length, Option, Some, None, Ok, Err};
+ghost use Rattle.std.specs.Prelude.{◌≡◌, ℕ, ◌<◌, true, false, List, [], ◌++◌, length, Option, Some, None, Ok, Err};
 ghost use Rattle.book_pcap.specs.declared.pcap_head.ByteOrder.{ByteOrder};
 ghost use Rattle.book_captures.specs.declared.pcap_head.PcapHead.{PcapHead};
 ghost use Rattle.book_captures.specs.PcapFiles.{KeptPacket, pcap_record_at, IsPcapRecord, IsPcapFile};
 ghost use Rattle.book_captures.specs.declared.capture_parts.Cause.TheVariants.{Record};
 ghost use Rattle.book_captures.specs.declared.pcap_head.RecordFault.{RecordFault};
 ghost use Rattle.book_captures.specs.Parts.{is_pcapng};
-ghost use Rattle.book_captures.specs.declared.capture_parts.FileFault.{FileFault};
-ghost use Rattle.book_captures.specs.Captures.{CapturePacket, capture_behind_packets, capture_of};
-ghost use Rattle.book_captures.specs.CaptureFiles.{captures_of, fault_in, in_file};
+ghost use Rattle.book_captures.specs.Captures.{CapturePacket, capture_of};
 ghost use Rattle.book_captures.specs.WholeFiles.{packets_kept, capture_kept, capture_broken, capture_in_blocks};
 ghost use Rattle.book_captures.specs.Blocks.{Block, block_at, IsBlock};
 ghost use Rattle.book_captures.specs.PcapngFiles.{AreBlocks, BrokenBlock, blocks_of, EndsBroken};
@@ -95,20 +93,4 @@ pub fn captures_of_pcap_files_are_their_grammar()
 /// (draft-ietf-opsawg-pcapng).
 pub fn captures_of_pcapng_files_are_in_their_blocks()
     ensures { (file : List ℕ) → is_pcapng file ≡ true → capture_of file ≡ capture_in_blocks (blocks_of file) }
-{}
-
-/// The capture in one file alone is the one that it has as the first of several; one more file behind files without
-/// a fault adds its packets, numbered on behind theirs; and behind a fault nothing is read (own).
-pub fn files_are_one_capture()
-    ensures one { (file : List ℕ) → captures_of (file ∷ []) ≡ in_file 1 (capture_of file) }
-    ensures next { (files : List (List ℕ)) (file : List ℕ) → (captures_of files).fault ≡ None
-        → let front = captures_of files in let here = capture_behind_packets (length front.packets) file in
-        captures_of (files ++ file ∷ [])
-        ≡ record {
-          packets = front.packets ++ here.packets;
-          passed = front.passed + here.passed;
-          fault = fault_in (length files + 1) here.fault;
-        } }
-    ensures ended { (files more : List (List ℕ)) (fault : FileFault) → (captures_of files).fault ≡ Some fault
-        → captures_of (files ++ more) ≡ captures_of files }
 {}

@@ -12,11 +12,11 @@ mod pcap_head;
 mod reasons;
 
 pub use block_parts::{BlockFault, BodyFault, Interface, TimeOffset, TimeResolution};
-pub use capture_parts::{CaptureFault, Cause, FileFault, Format};
+pub use capture_parts::{CaptureFault, Cause, Format};
 pub use datagram_parts::{Extent, IpVersion};
 pub use laws::{
     blocks_are_their_grammar, captures_are_their_grammar, captures_of_pcap_files_are_their_grammar,
-    captures_of_pcapng_files_are_in_their_blocks, files_are_one_capture, records_are_their_grammar,
+    captures_of_pcapng_files_are_in_their_blocks, records_are_their_grammar,
     tags_and_labels_are_passed_over,
 };
 pub use link_type::{LinkType, Protocol};
