@@ -78,14 +78,15 @@ impl Model for CaptureReader {
       counts = record { packets = r.packets; parts = r.parts; bytes = r.bytes };
       passed = r.passed;
       over = r.over;
-      packet = cond r.shown (Some (record { number = r.packets;
-            frame = record {
-              time = r.time;
-              link = r.link;
-              original = r.original;
-              bytes = r.buffer.piece;
-            };
-          })) None;
+      packet = cond r.shown (Some (record {
+        number = r.packets;
+        frame = record {
+          time = r.time;
+          link = r.link;
+          original = r.original;
+          bytes = r.buffer.piece;
+        };
+      })) None;
     } };
 
     ghost invariant = { λ r. (r.bytes ≤ 9223372036854775808) × (r.parts ≤ r.bytes) × (r.packets + r.passed ≤ r.parts)
