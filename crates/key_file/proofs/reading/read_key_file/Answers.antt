@@ -1,10 +1,11 @@
 use Rattle.toml.specs.View.{table_view}
+use Rattle.key_table.specs.Documents.{unread_fault}
 use Rattle.key_table.proofs.UnreadLaws.{tables_by, unread_fails}
 use Rattle.key_file.proofs.ReadLaws.{file_fails, file_read}
 use Rattle.key_file.proofs.reading.read_key_file.Goals as goal
 
 pub returns-in-Err-clause-file : goal.returns-in-Err-clause-file
-returns-in-Err-clause-file c = rw c.fault.ensures (file_fails c.args.text.now c.fault.result (rw c.fault.ensures (unread_fails c.args.text.now c.in-Err.unread c.in-Err.ensures.refused)))
+returns-in-Err-clause-file c = rw c.fault.ensures (file_fails c.args.text.now (unread_fault c.in-Err.unread) (unread_fails c.args.text.now c.in-Err.unread c.in-Err.ensures.refused))
 
 pub returns-in-Err-clause-tables : goal.returns-in-Err-clause-tables
 returns-in-Err-clause-tables c = rw c.fault.ensures (unread_fails c.args.text.now c.in-Err.unread c.in-Err.ensures.refused)
