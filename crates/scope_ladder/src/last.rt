@@ -83,11 +83,7 @@ pub(crate) fn finish<O: Sink>(
 {
     match walked {
         Ok(_) => write_last(drawer, out, told(&drawer.search)),
-        Err(WalkHalt::Broken(fault)) => write_last(
-            drawer,
-            out,
-            Err(LadderHalt::Walk(WalkHalt::Broken(fault))),
-        ),
+        Err(WalkHalt::Broken(fault)) => write_last(drawer, out, Err(LadderHalt::Walk(WalkHalt::Broken(fault)))),
         Err(WalkHalt::TooLong) => write_last(drawer, out, Err(LadderHalt::Walk(WalkHalt::TooLong))),
         Err(WalkHalt::Read) => write_last(drawer, out, Err(LadderHalt::Walk(WalkHalt::Read))),
         Err(WalkHalt::Write) => Err(LadderHalt::Walk(WalkHalt::Write)),

@@ -27,9 +27,9 @@ const MOST_INPUT: u64 = 33_554_432;
 
 /// The texts of the key file and of the file of initial sequence numbers.
 #[derive(Drop)]
-pub(crate) struct Files {
-    pub(crate) keys: Bytes,
-    pub(crate) isns: Bytes,
+struct Files {
+    keys: Bytes,
+    isns: Bytes,
 }
 
 /// The key file, and the initial sequence numbers that are given.

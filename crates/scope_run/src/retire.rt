@@ -79,15 +79,7 @@ fn read_and_write<K: Source, J: Source, I: Source, O: Sink>(
         result }
 {
     match judged_from(alloc, has_isns, keys, isns) {
-        Ok(judged) => write_lines(
-            alloc,
-            word,
-            laps,
-            judged.file,
-            judged.isns.as_slice(),
-            input,
-            out,
-        ),
+        Ok(judged) => write_lines(alloc, word, laps, judged.file, judged.isns.as_slice(), input, out),
         Err(why) => Err(why),
     }
 }

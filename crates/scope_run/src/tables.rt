@@ -85,14 +85,7 @@ fn read_and_write<K: Source, J: Source, I: Source, O: Sink>(
         result }
 {
     match judged_from(alloc, has_isns, keys, isns) {
-        Ok(judged) => write_tables(
-            alloc,
-            wanted,
-            judged.file,
-            judged.isns.as_slice(),
-            input,
-            out,
-        ),
+        Ok(judged) => write_tables(alloc, wanted, judged.file, judged.isns.as_slice(), input, out),
         Err(why) => Err(why),
     }
 }

@@ -65,14 +65,7 @@ fn read_and_explain<K: Source, J: Source, I: Source, O: Sink>(
         result }
 {
     match judged_from(alloc, has_isns, keys, isns) {
-        Ok(judged) => explain(
-            alloc,
-            wanted,
-            judged.file,
-            judged.isns.as_slice(),
-            input,
-            out,
-        ),
+        Ok(judged) => explain(alloc, wanted, judged.file, judged.isns.as_slice(), input, out),
         Err(why) => Err(why),
     }
 }
