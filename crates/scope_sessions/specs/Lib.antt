@@ -1,5 +1,6 @@
 pub mod Counting
 pub mod Given
+pub mod Halts
 pub mod JsonParts
 pub mod KeyRows
 pub mod Reading

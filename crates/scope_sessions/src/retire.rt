@@ -2,15 +2,16 @@
 ghost use Rattle.std.specs.Prelude.{◌≡◌, ℕ, List};
 ghost use Rattle.toml.specs.View.{table_view};
 ghost use Rattle.ao_base.specs.Outside.{Side};
-ghost use Rattle.scope_sessions.specs.Reading.{series_of};
 ghost use Rattle.scope_sessions.specs.Writing.{Writes, WritesCounted, at_end, retire_report};
 
-use crate::count::{Counted, count_capture};
+use crate::count::{CountHalt, Counted, count_capture};
+use crate::document::read_document;
+use crate::halt::{JudgingHalt, halt_of, halt_of_lines};
+use crate::isns::read_given;
 use crate::named_keys::push_retiring;
 use ao_base::{Failed, Sink, Source, write_all};
-use book_sessions::{GivenIsns, Retiring};
-use capture_walk::WalkHalt;
-use key_file::KeyFile;
+use book_sessions::Retiring;
+use key_table::read_tables;
 use page_sessions_json::{TableForm, TableRequest};
 use std::alloc::Global;
 
@@ -28,7 +29,7 @@ fn write_counted<O: Sink>(
     document: &toml::Table,
     counted: &Counted,
     out: &mut O,
-) -> Result<Retiring, WalkHalt>
+) -> Result<Retiring, JudgingHalt>
     ensures { WritesCounted (retire_report word.now) (table_view document.now) counted.now (O.side out.old)
         (O.side out.new) result }
 {
@@ -36,15 +37,15 @@ fn write_counted<O: Sink>(
     let mut text = Vec::new(alloc);
     let told = match push_retiring(alloc, &mut text, word, document, tables, &counted.index) {
         Ok(told) => told,
-        Err(_) => return Err(WalkHalt::Memory),
+        Err(_) => return Err(JudgingHalt::Memory),
     };
     match write_all(out, text.as_slice()) {
         Ok(()) => {}
-        Err(Failed) => return Err(WalkHalt::Write),
+        Err(Failed) => return Err(JudgingHalt::Write),
     }
     match counted.fault {
         None => Ok(told),
-        Some(fault) => Err(WalkHalt::Broken(fault)),
+        Some(fault) => Err(JudgingHalt::Broken(fault)),
     }
 }
 
@@ -56,18 +57,40 @@ pub fn write_retiring<I: Source, O: Sink>(
     alloc: Global,
     word: &[u8],
     laps: u32,
-    file: KeyFile,
-    isns: &[GivenIsns],
+    keys: &[u8],
+    isns: &[u8],
     input: &mut I,
     out: &mut O,
-) -> Result<Retiring, WalkHalt>
-    ensures { (given : List ℕ) × Writes (retire_report word.now)
-        (series_of (table_view file.document) file.tables laps isns.now at_end) given (I.side input.old)
+) -> Result<Retiring, JudgingHalt>
+    ensures { (given : List ℕ) × Writes (retire_report word.now) at_end laps keys.now isns.now given (I.side input.old)
         (I.side input.new) (O.side out.old) (O.side out.new) result }
 {
-    let KeyFile { document, tables } = file;
-    match count_capture(alloc, tables, laps, isns, &document, AT_END, input, out) {
+    let tables = match read_tables(alloc, keys) {
+        Ok(tables) => tables,
+        Err(fault) => return Err(halt_of(fault)),
+    };
+    let document = match read_document(alloc, keys) {
+        Ok(document) => document,
+        Err(fault) => return Err(halt_of(fault)),
+    };
+    let given = match read_given(alloc, isns) {
+        Ok(given) => given,
+        Err(fault) => return Err(halt_of_lines(fault)),
+    };
+    match count_capture(
+        alloc,
+        tables,
+        laps,
+        given.as_slice(),
+        &document,
+        AT_END,
+        input,
+        out,
+    ) {
         Ok(counted) => write_counted(alloc, word, &document, &counted, out),
-        Err(halt) => Err(halt),
+        Err(CountHalt::TooLong) => Err(JudgingHalt::TooLong),
+        Err(CountHalt::Read) => Err(JudgingHalt::Read),
+        Err(CountHalt::Write) => Err(JudgingHalt::Write),
+        Err(CountHalt::Memory) => Err(JudgingHalt::Memory),
     }
 }
