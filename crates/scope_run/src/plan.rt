@@ -19,7 +19,8 @@ use book_cmd_keys::Plan;
 use book_draw_plan::PlanForm;
 use book_scope_run::{Halt, Origin};
 use command_report::Report;
-use scope_plan::{KeyFile, answer_plan};
+use key_file::KeyFile;
+use scope_plan::answer_plan;
 use std::alloc::Global;
 
 fn form_of(asked: &PlanAsked<'_>) -> PlanForm

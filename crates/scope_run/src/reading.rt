@@ -13,8 +13,8 @@ use ao_base::{Source, read_all};
 use book_base::Bytes;
 use book_scope_run::{Halt, Origin};
 use book_sessions::GivenIsns;
+use key_file::{KeyFile, read_key_file};
 use key_table::{MOST_KEYS, Tables, read_tables};
-use scope_plan::{KeyFile, read_key_file};
 use scope_sessions::read_given;
 use std::alloc::Global;
 

@@ -7,7 +7,7 @@ use crate::answer::Answered;
 use crate::capture::answer_capture;
 use crate::question::Question;
 use ao_base::{Failed, Sink, Source, write_all};
-use scope_plan::{KeyFile, read_key_file};
+use key_file::{KeyFile, read_key_file};
 use scope_sessions::{JudgingHalt, halt_of, halt_of_lines, read_given};
 use std::alloc::Global;
 
