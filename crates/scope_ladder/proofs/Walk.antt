@@ -104,7 +104,7 @@ written_none : (q : Request) (out : Side) → WasWritten (flow_text q []) out ou
 written_none q out = subst (λ (t : List ℕ). WasWritten t out out) (sym (no_text q)) (took_none out)
 
 -- memory ran out before the first part
-pub ends_none : (q : Request) (source out : Side) → Writes q [] source source out out (Err halt.Memory)
+pub ends_none : (q : Request) (source out : Side) → Writes q [] source source out out (Err (halt.Walk walk_halt.Memory))
 ends_none q source out = record {
   gave = gave_none source;
   bytes = all_none;
@@ -122,11 +122,7 @@ ends_told q given a c o r (Err (halt.NoSession many)) at_end faultless tells wro
   all = tells.1;
   wrote = subst (λ (t : List ℕ). WasWritten t o r) (no_session_drawn q.form q.within q.number (rungs_for q (capture_of given).packets) tells.0) wrote;
 }
-ends_told q given a c o r (Err (halt.Broken fault)) at_end faultless tells wrote = absurd tells
-ends_told q given a c o r (Err halt.TooLong) at_end faultless tells wrote = absurd tells
-ends_told q given a c o r (Err halt.Read) at_end faultless tells wrote = absurd tells
-ends_told q given a c o r (Err halt.Write) at_end faultless tells wrote = absurd tells
-ends_told q given a c o r (Err halt.Memory) at_end faultless tells wrote = absurd tells
+ends_told q given a c o r (Err (halt.Walk why)) at_end faultless tells wrote = absurd tells
 
 -- a write failed of what is drawn of these packets, behind what is drawn of the first of them before all is read
 breaks_at : (q : Request) (given : List ℕ) (o r : Side) (read later : List CapturePacket) (text more : List ℕ) (n : ℕ) → length later ≤ 1 → HasRead given (read ++ later)
@@ -182,11 +178,11 @@ module _ (q : Request) (d : Drawer) (reader : Reading) (given : List ℕ) (a c o
       ends_last q d given a c o p r packets by.0 result w.has_read w.heard w.wrote (ends_told q given a c o r by.0 w.at_end w.faultless tells) by.2
   ends_by (Ok end.Done) w by = absurd w.here
   ends_by (Err (walk_halt.Broken fault)) w by =
-      ends_last q d given a c o p r (capture_of given).packets (Err (halt.Broken fault)) result w.has_read w.heard w.wrote (λ wrote. record { has_read = w.has_read; fault_is = w.fault_is; all = w.all; wrote = wrote }) by
+      ends_last q d given a c o p r (capture_of given).packets (Err (halt.Walk (walk_halt.Broken fault))) result w.has_read w.heard w.wrote (λ wrote. record { has_read = w.has_read; fault_is = w.fault_is; all = w.all; wrote = wrote }) by
   ends_by (Err walk_halt.TooLong) w by =
-      ends_last q d given a c o p r w.1.read (Err halt.TooLong) result w.1.has_read w.1.heard w.1.wrote (λ wrote. (w.0, record { read = w.1.read; has_read = w.1.has_read; wrote = wrote })) by
+      ends_last q d given a c o p r w.1.read (Err (halt.Walk walk_halt.TooLong)) result w.1.has_read w.1.heard w.1.wrote (λ wrote. (w.0, record { read = w.1.read; has_read = w.1.has_read; wrote = wrote })) by
   ends_by (Err walk_halt.Read) w by =
-      ends_last q d given a c o p r w.1.read (Err halt.Read) result w.1.has_read w.1.heard w.1.wrote (λ wrote. (w.0, record { read = w.1.read; has_read = w.1.has_read; wrote = wrote })) by
+      ends_last q d given a c o p r w.1.read (Err (halt.Walk walk_halt.Read)) result w.1.has_read w.1.heard w.1.wrote (λ wrote. (w.0, record { read = w.1.read; has_read = w.1.has_read; wrote = wrote })) by
   ends_by (Err walk_halt.Write) w by =
       let read = w.read ++ w.last ∷ [] in
       let whole : (flow_text q w.read ++ w.text) ++ rest_of q (rungs_for q read) ≡ drawn_text q read =

@@ -79,15 +79,15 @@ Ends q given source_before source_now out_before out_now (Ok done) =
     Finishes q given source_now out_before out_now
 Ends q given source_before source_now out_before out_now (Err (halt.NoSession many)) =
     Misses q given source_now out_before out_now many
-Ends q given source_before source_now out_before out_now (Err (halt.Broken fault)) =
+Ends q given source_before source_now out_before out_now (Err (halt.Walk (walk_halt.Broken fault))) =
     Refuses q given source_now out_before out_now fault
-Ends q given source_before source_now out_before out_now (Err halt.TooLong) =
+Ends q given source_before source_now out_before out_now (Err (halt.Walk walk_halt.TooLong)) =
     (most_read < length given) × Stops q given out_before out_now
-Ends q given source_before source_now out_before out_now (Err halt.Read) =
+Ends q given source_before source_now out_before out_now (Err (halt.Walk walk_halt.Read)) =
     Rose source_before source_now × Stops q given out_before out_now
-Ends q given source_before source_now out_before out_now (Err halt.Write) =
+Ends q given source_before source_now out_before out_now (Err (halt.Walk walk_halt.Write)) =
     Breaks q given out_before out_now
-Ends q given source_before source_now out_before out_now (Err halt.Memory) =
+Ends q given source_before source_now out_before out_now (Err (halt.Walk walk_halt.Memory)) =
     Lacks q given out_before out_now
 
 -- a session of a capture is drawn, of which the source gave these bytes (own)
@@ -102,8 +102,8 @@ pub record Writes (q : Request) (given : List ℕ)
 abbrev pub WritesLast : (text : List ℕ) → Side → Side → (after result : Result (Unit {0}) LadderHalt) → Type 0
 WritesLast text out_before out_now after result =
     (WasWritten text out_before out_now × (result ≡ after))
-    ⊎ ((WasWritten [] out_before out_now × (result ≡ Err halt.Memory))
-    ⊎ (TellsPart text out_before out_now × (result ≡ Err halt.Write)))
+    ⊎ ((WasWritten [] out_before out_now × (result ≡ Err (halt.Walk walk_halt.Memory)))
+    ⊎ (TellsPart text out_before out_now × (result ≡ Err (halt.Walk walk_halt.Write))))
 
 -- a drawing ends so where the walk over the capture ended so: what is drawn when all is read was
 -- written, or nothing more, where a write failed before or memory ran out
@@ -113,12 +113,12 @@ EndsBy d out_before out_now (Ok how) result = (after : Result (Unit {0}) LadderH
     ((rs : List SessionRung) → Seeks d.search rs → Tells d.search.number rs after) ×
     WritesLast (last_text d) out_before out_now after result
 EndsBy d out_before out_now (Err (walk_halt.Broken fault)) result =
-    WritesLast (last_text d) out_before out_now (Err (halt.Broken fault)) result
+    WritesLast (last_text d) out_before out_now (Err (halt.Walk (walk_halt.Broken fault))) result
 EndsBy d out_before out_now (Err walk_halt.TooLong) result =
-    WritesLast (last_text d) out_before out_now (Err halt.TooLong) result
+    WritesLast (last_text d) out_before out_now (Err (halt.Walk walk_halt.TooLong)) result
 EndsBy d out_before out_now (Err walk_halt.Read) result =
-    WritesLast (last_text d) out_before out_now (Err halt.Read) result
+    WritesLast (last_text d) out_before out_now (Err (halt.Walk walk_halt.Read)) result
 EndsBy d out_before out_now (Err walk_halt.Write) result =
-    (out_now ≡ out_before) × (result ≡ Err halt.Write)
+    (out_now ≡ out_before) × (result ≡ Err (halt.Walk walk_halt.Write))
 EndsBy d out_before out_now (Err walk_halt.Memory) result =
-    (out_now ≡ out_before) × (result ≡ Err halt.Memory)
+    (out_now ≡ out_before) × (result ≡ Err (halt.Walk walk_halt.Memory))

@@ -9,8 +9,8 @@ use crate::last::finish;
 use ao_base::{Sink, Source};
 use book_draw_session::DrawnTime;
 use book_sessions::GivenIsns;
-use capture_stream::{CaptureFault, CaptureReader};
-use capture_walk::walk;
+use capture_stream::CaptureReader;
+use capture_walk::{WalkHalt, walk};
 use key_table::Tables;
 use page_draw_session_svg::LadderForm;
 use std::alloc::Global;
@@ -33,16 +33,8 @@ pub struct LadderRequest {
 pub enum LadderHalt {
     /// The capture has so many sessions, and none of this number.
     NoSession(u64),
-    /// The capture is faulty here. The segments in front of it were drawn.
-    Broken(CaptureFault),
-    /// The source gave more than 2^63 bytes.
-    TooLong,
-    /// A read failed.
-    Read,
-    /// A write failed.
-    Write,
-    /// Memory ran out.
-    Memory,
+    /// The capture wasn't read to its end, or not all was written; or memory ran out.
+    Walk(WalkHalt),
 }
 
 /// Draws the session of a capture that is asked for, judged by the tables as behind handshakes with the given initial
@@ -71,11 +63,11 @@ pub fn draw_session<I: Source, O: Sink>(
 {
     let mut reader = match CaptureReader::new(alloc) {
         Ok(reader) => reader,
-        Err(_) => return Err(LadderHalt::Memory),
+        Err(_) => return Err(LadderHalt::Walk(WalkHalt::Memory)),
     };
     let mut drawer = match Drawer::new(alloc, asked, tables, isns) {
         Ok(drawer) => drawer,
-        Err(_) => return Err(LadderHalt::Memory),
+        Err(_) => return Err(LadderHalt::Walk(WalkHalt::Memory)),
     };
     let walked = walk(&mut reader, &mut drawer, input, out);
     finish(&drawer, walked, out)

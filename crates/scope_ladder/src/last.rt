@@ -64,11 +64,11 @@ fn write_last<O: Sink>(
 {
     let text = match last_text(drawer) {
         Ok(text) => text,
-        Err(_) => return Err(LadderHalt::Memory),
+        Err(_) => return Err(LadderHalt::Walk(WalkHalt::Memory)),
     };
     match write_all(out, text.as_slice()) {
         Ok(()) => after,
-        Err(Failed) => Err(LadderHalt::Write),
+        Err(Failed) => Err(LadderHalt::Walk(WalkHalt::Write)),
     }
 }
 
@@ -83,10 +83,14 @@ pub(crate) fn finish<O: Sink>(
 {
     match walked {
         Ok(_) => write_last(drawer, out, told(&drawer.search)),
-        Err(WalkHalt::Broken(fault)) => write_last(drawer, out, Err(LadderHalt::Broken(fault))),
-        Err(WalkHalt::TooLong) => write_last(drawer, out, Err(LadderHalt::TooLong)),
-        Err(WalkHalt::Read) => write_last(drawer, out, Err(LadderHalt::Read)),
-        Err(WalkHalt::Write) => Err(LadderHalt::Write),
-        Err(WalkHalt::Memory) => Err(LadderHalt::Memory),
+        Err(WalkHalt::Broken(fault)) => write_last(
+            drawer,
+            out,
+            Err(LadderHalt::Walk(WalkHalt::Broken(fault))),
+        ),
+        Err(WalkHalt::TooLong) => write_last(drawer, out, Err(LadderHalt::Walk(WalkHalt::TooLong))),
+        Err(WalkHalt::Read) => write_last(drawer, out, Err(LadderHalt::Walk(WalkHalt::Read))),
+        Err(WalkHalt::Write) => Err(LadderHalt::Walk(WalkHalt::Write)),
+        Err(WalkHalt::Memory) => Err(LadderHalt::Walk(WalkHalt::Memory)),
     }
 }

@@ -1,3 +1,2 @@
-pub mod FileLaws
 pub mod Given
 pub mod Said

@@ -14,11 +14,11 @@ use Rattle.book_draw_plan.specs.declared.form.PlanForm.{PlanForm}
 use Rattle.book_scope_plan.specs.AdminNames.{KeyFile as Sheets}
 use Rattle.book_scope_run.specs.declared.halt.Halt.{Halt}
 use Rattle.book_scope_run.specs.declared.halt.Origin.TheVariants.{KeyFile, Input}
-use Rattle.book_sessions.specs.GivenLines.{given_isns_of}
 use Rattle.book_sessions.specs.declared.retiring.Retiring.{Retiring}
+use Rattle.capture_walk.specs.declared.walking.WalkHalt.{WalkHalt}
 use Rattle.command_report.specs.declared.report.Report.{Report}
 use Rattle.page_draw_svg.specs.declared.placed.Form.{Form}
-use Rattle.scope_check.specs.Writing.{Writes as WritesChecks}
+use Rattle.packet_check.specs.Reading.{Checks as ChecksCapture}
 use Rattle.scope_draw.specs.Forms.{drawn, drawn_by_shared}
 use Rattle.scope_echo.specs.Forms.{echoed_by_shared, echoed_over}
 use Rattle.scope_ladder.specs.declared.draw.LadderHalt.{LadderHalt}
@@ -27,12 +27,12 @@ use Rattle.scope_ladder.specs.Drawing.{request_of}
 use Rattle.scope_ladder.specs.Writing.{Writes as DrawsLadder}
 use Rattle.scope_lines.specs.declared.write.LinesHalt.{LinesHalt}
 use Rattle.scope_lines.specs.Writes.{Writes as WritesLines}
-use Rattle.scope_sessions.specs.declared.halt.JudgingHalt.{JudgingHalt}
-use Rattle.scope_sessions.specs.Halts.{key_file_in}
+use Rattle.key_file.specs.KeyFiles.{key_file_in}
+use Rattle.scope_sessions.specs.Reading.{series_of}
 use Rattle.scope_sessions.specs.Writing.{Writes as WritesTables, at_end, retire_report}
 use Rattle.scope_sessions.specs.Writing.{table_report}
 use Rattle.scope_why.specs.declared.write.WhyRequest.{WhyRequest}
-use Rattle.scope_why.specs.Writing.{Writes as WritesWhy}
+use Rattle.scope_why.specs.Writing.{Writes as WritesWhy, question_of}
 use Rattle.scope_run.specs.declared.asked.Asked.{Asked}
 use Rattle.scope_run.specs.declared.asked.Asked.TheVariants as asked
 use Rattle.scope_run.specs.declared.asked.CheckAsked.{CheckAsked}
@@ -41,11 +41,10 @@ use Rattle.scope_run.specs.declared.asked.EchoAsked.{EchoAsked}
 use Rattle.scope_run.specs.declared.asked.PacketAsked.{PacketAsked}
 use Rattle.scope_run.specs.declared.asked.PlanAsked.{PlanAsked}
 use Rattle.scope_run.specs.declared.asked.SessionsAsked.{SessionsAsked}
-use Rattle.scope_run.specs.declared.reading.Files.{Files}
 use Rattle.scope_run.specs.declared.tables.TablesWanted.{TablesWanted}
 use Rattle.scope_run.specs.Answers.{MakesKeyReport, WritesAnswer, WritesReport, plan_answer}
-use Rattle.scope_run.specs.Halts.{ladder_end, lines_end, retiring_end, tables_end, why_end}
-use Rattle.scope_run.specs.Readings.{IsnsGive, KeysGive, ReadsFiles, ReadsWhole}
+use Rattle.scope_run.specs.Halts.{judged_end, ladder_end, lines_end, retiring_end, why_end}
+use Rattle.scope_run.specs.Readings.{JudgedFiles, KeysGive, ReadsJudged, ReadsWhole}
 use Rattle.scope_run.specs.Requests.{form_of, ladder_wanted, plan_form_of, plan_wanted}
 use Rattle.scope_run.specs.Requests.{retiring_wanted, tables_wanted, why_wanted}
 use Rattle.scope_run.specs.Sides.{Flow, Given, Sides, Unread, flow}
@@ -75,36 +74,38 @@ abbrev pub Then : {A : Type 0} → Result A Halt → (A → Type 0) → Flow →
 Then (Ok x) Next f end = Next x
 Then (Err why) Next f end = NoInput why f end
 
--- the key file is read, then the initial sequence numbers, where the words ask for them, and then
--- this comes (own)
-abbrev pub WithFiles : Bool → ((keys isns : List ℕ) → Type 0) → Given → (b n : Sides) →
+-- the key file is read, then the initial sequence numbers, where the words ask for them; they are
+-- judged, the key file first; and then this comes (own)
+abbrev pub WithFiles : Bool → (Sheets → List GivenIsns → Type 0) → Given → (b n : Sides) →
     Result Bool Halt → Type 0
 WithFiles has_isns Next g b n end =
-    (files : Result Files Halt)
-    × ReadsFiles has_isns g.keys g.isns b.keys n.keys b.isns n.isns files
-    × Then files (λ fs. Next fs.keys fs.isns) (flow g b n) end
+    (judged : Result JudgedFiles Halt)
+    × ReadsJudged has_isns g.keys g.isns b.keys n.keys b.isns n.isns judged
+    × Then judged (λ j. Next j.file j.isns) (flow g b n) end
 
--- what `check` says of each packet of a capture is written (own)
-abbrev pub Checks : (all : Bool) → (keys isns : List ℕ) → Flow → Result Bool Halt → Type 0
-Checks all keys isns f end =
-    (r : Result Bool JudgingHalt)
-    × WritesChecks all keys isns f.given f.input_before f.input_now f.out_before f.out_now r
-    × (end ≡ tables_end r)
+-- what `check` says of each packet of a capture is written, by these tables and initial sequence
+-- numbers (own)
+abbrev pub Checks : (all : Bool) → List Table → List GivenIsns → Flow → Result Bool Halt → Type 0
+Checks all tables isns f end =
+    (r : Result Bool WalkHalt)
+    × ChecksCapture all tables isns f.given f.input_before f.input_now f.out_before f.out_now r
+    × (end ≡ judged_end r)
 
--- the tables of a capture are written (own)
-abbrev pub Tabulates : TablesWanted → (keys isns : List ℕ) → Flow → Result Bool Halt → Type 0
-Tabulates w keys isns f end =
-    (r : Result Bool JudgingHalt)
-    × WritesTables (table_report w.request) w.request w.laps keys isns f.given f.input_before
-    f.input_now f.out_before f.out_now r × (end ≡ tables_end r)
+-- the tables of a capture are written, by this key file and initial sequence numbers (own)
+abbrev pub Tabulates : TablesWanted → Sheets → List GivenIsns → Flow → Result Bool Halt → Type 0
+Tabulates w file isns f end =
+    (r : Result Bool WalkHalt)
+    × WritesTables (table_report w.request)
+    (series_of file.document file.tables w.laps isns w.request) f.given f.input_before f.input_now
+    f.out_before f.out_now r × (end ≡ judged_end r)
 
 -- it is written whether the keys that a word names may go (own)
-abbrev pub Retires : (word : List ℕ) → (laps : ℕ) → (keys isns : List ℕ) → Flow →
+abbrev pub Retires : (word : List ℕ) → (laps : ℕ) → Sheets → List GivenIsns → Flow →
     Result Bool Halt → Type 0
-Retires word laps keys isns f end =
-    (r : Result Retiring JudgingHalt)
-    × WritesTables (retire_report word) at_end laps keys isns f.given f.input_before f.input_now
-    f.out_before f.out_now r × (end ≡ retiring_end r)
+Retires word laps file isns f end =
+    (r : Result Retiring WalkHalt)
+    × WritesTables (retire_report word) (series_of file.document file.tables laps isns at_end)
+    f.given f.input_before f.input_now f.out_before f.out_now r × (end ≡ retiring_end r)
 
 -- a session of a capture is drawn, by these tables and initial sequence numbers (own)
 abbrev pub DrawsBy : LadderRequest → List Table → List GivenIsns → Flow → Result Bool Halt → Type 0
@@ -113,53 +114,40 @@ DrawsBy w tables isns f end =
     × DrawsLadder (request_of w tables isns) f.given f.input_before f.input_now f.out_before
     f.out_now r × (end ≡ ladder_end w.number r)
 
--- the initial sequence numbers of this text are judged, and then the session is drawn (own)
-abbrev pub DrawsOver : LadderRequest → (isns : List ℕ) → List Table → Flow →
-    Result Bool Halt → Type 0
-DrawsOver w isns tables f end =
-    (given : Result (List GivenIsns) Halt) × IsnsGive (given_isns_of isns) given
-    × Then given (λ i. DrawsBy w tables i f end) f end
+-- the answer on a packet is written, by this key file and initial sequence numbers (own)
+abbrev pub Explains : WhyRequest → Sheets → List GivenIsns → Flow → Result Bool Halt → Type 0
+Explains w file isns f end =
+    (r : Result Bool WalkHalt)
+    × WritesWhy file (question_of w isns) f.given f.input_before f.input_now f.out_before f.out_now
+    r × (end ≡ why_end r)
 
--- the texts of the files are judged, the key file first, and then the session is drawn (own)
-abbrev pub DrawsSession : LadderRequest → (keys isns : List ℕ) → Flow → Result Bool Halt → Type 0
-DrawsSession w keys isns f end =
-    (tables : Result (List Table) Halt) × KeysGive (tables_of keys) tables
-    × Then tables (λ t. DrawsOver w isns t f end) f end
-
--- the answer on a packet is written (own)
-abbrev pub Explains : WhyRequest → (keys isns : List ℕ) → Flow → Result Bool Halt → Type 0
-Explains w keys isns f end =
-    (r : Result Bool JudgingHalt)
-    × WritesWhy w keys isns f.given f.input_before f.input_now f.out_before f.out_now r
-    × (end ≡ why_end r)
-
--- the files are read, and then what `check` says written (own)
+-- the files are read and judged, and then what `check` says written (own)
 abbrev pub ReadsAndChecks : (has_isns all : Bool) → Given → (b n : Sides) →
     Result Bool Halt → Type 0
 ReadsAndChecks has_isns all g b n end =
-    WithFiles has_isns (λ keys isns. Checks all keys isns (flow g b n) end) g b n end
+    WithFiles has_isns (λ k isns. Checks all k.tables isns (flow g b n) end) g b n end
 
--- the files are read, and then the tables written (own)
+-- the files are read and judged, and then the tables written (own)
 abbrev pub ReadsAndTabulates : Bool → TablesWanted → Given → (b n : Sides) →
     Result Bool Halt → Type 0
 ReadsAndTabulates has_isns w g b n end =
-    WithFiles has_isns (λ keys isns. Tabulates w keys isns (flow g b n) end) g b n end
+    WithFiles has_isns (λ k isns. Tabulates w k isns (flow g b n) end) g b n end
 
--- the files are read, and then it is written whether keys may go (own)
+-- the files are read and judged, and then it is written whether keys may go (own)
 abbrev pub ReadsAndRetires : Bool → (word : List ℕ) → (laps : ℕ) → Given → (b n : Sides) →
     Result Bool Halt → Type 0
 ReadsAndRetires has_isns word laps g b n end =
-    WithFiles has_isns (λ keys isns. Retires word laps keys isns (flow g b n) end) g b n end
+    WithFiles has_isns (λ k isns. Retires word laps k isns (flow g b n) end) g b n end
 
--- the files are read, and then a session is drawn (own)
+-- the files are read and judged, and then a session is drawn (own)
 abbrev pub ReadsAndDraws : Bool → LadderRequest → Given → (b n : Sides) → Result Bool Halt → Type 0
 ReadsAndDraws has_isns w g b n end =
-    WithFiles has_isns (λ keys isns. DrawsSession w keys isns (flow g b n) end) g b n end
+    WithFiles has_isns (λ k isns. DrawsBy w k.tables isns (flow g b n) end) g b n end
 
--- the files are read, and then the answer on a packet written (own)
+-- the files are read and judged, and then the answer on a packet written (own)
 abbrev pub ReadsAndExplains : Bool → WhyRequest → Given → (b n : Sides) → Result Bool Halt → Type 0
 ReadsAndExplains has_isns w g b n end =
-    WithFiles has_isns (λ keys isns. Explains w keys isns (flow g b n) end) g b n end
+    WithFiles has_isns (λ k isns. Explains w k isns (flow g b n) end) g b n end
 
 -- `sessions`: whether keys may go, where a word names some; else a session is drawn, where one is
 -- numbered; else the tables are written (own)

@@ -12,14 +12,14 @@ use Rattle.book_scope_run.specs.declared.halt.Origin.{Origin}
 use Rattle.book_scope_run.specs.declared.halt.Origin.TheVariants.{Input}
 use Rattle.book_sessions.specs.declared.retiring.Retiring.{Retiring}
 use Rattle.book_sessions.specs.declared.retiring.Retiring.TheVariants as retiring
+use Rattle.capture_walk.specs.declared.walking.WalkHalt.{WalkHalt}
+use Rattle.capture_walk.specs.declared.walking.WalkHalt.TheVariants as walk
 use Rattle.command_report.specs.declared.stop.Stop.{Stop}
 use Rattle.command_report.specs.declared.stop.Stop.TheVariants as stop
 use Rattle.scope_ladder.specs.declared.draw.LadderHalt.{LadderHalt}
 use Rattle.scope_ladder.specs.declared.draw.LadderHalt.TheVariants as ladder
 use Rattle.scope_lines.specs.declared.write.LinesHalt.{LinesHalt}
 use Rattle.scope_lines.specs.declared.write.LinesHalt.TheVariants as written
-use Rattle.scope_sessions.specs.declared.halt.JudgingHalt.{JudgingHalt}
-use Rattle.scope_sessions.specs.declared.halt.JudgingHalt.TheVariants as judging
 
 -- reading from there came to no end (own)
 abbrev pub halt_of_reading : Origin → ReadProblem → Halt
@@ -58,43 +58,36 @@ halt_of_lines written.Read = halt.Read Input
 halt_of_lines written.Write = halt.Write
 halt_of_lines written.Memory = halt.Memory
 
--- a capture that is judged ended so (own)
-abbrev pub halt_of_judging : JudgingHalt → Halt
-halt_of_judging (judging.Keys fault) = halt_of_keys fault
-halt_of_judging (judging.IsnLine n kind) = halt.IsnLine n kind
-halt_of_judging judging.TooManyIsns = halt.TooManyIsns
-halt_of_judging (judging.Broken fault) = halt.Broken fault
-halt_of_judging judging.TooLong = halt.TooLong Input
-halt_of_judging judging.Read = halt.Read Input
-halt_of_judging judging.Write = halt.Write
-halt_of_judging judging.Memory = halt.Memory
+-- the walk over a capture ended so (own)
+abbrev pub halt_of_walk : WalkHalt → Halt
+halt_of_walk (walk.Broken fault) = halt.Broken fault
+halt_of_walk walk.TooLong = halt.TooLong Input
+halt_of_walk walk.Read = halt.Read Input
+halt_of_walk walk.Write = halt.Write
+halt_of_walk walk.Memory = halt.Memory
 
 -- the ladder of the session of this number ended so (own)
 abbrev pub halt_of_ladder : (number : ℕ) → LadderHalt → Halt
 halt_of_ladder number (ladder.NoSession many) = halt.NoSession number many
-halt_of_ladder number (ladder.Broken fault) = halt.Broken fault
-halt_of_ladder number ladder.TooLong = halt.TooLong Input
-halt_of_ladder number ladder.Read = halt.Read Input
-halt_of_ladder number ladder.Write = halt.Write
-halt_of_ladder number ladder.Memory = halt.Memory
+halt_of_ladder number (ladder.Walk why) = halt_of_walk why
 
 -- how a run ends whose lines of a capture ended so; nothing is amiss in them (own)
 abbrev pub lines_end : Result (Unit {0}) LinesHalt → Result Bool Halt
 lines_end (Ok done) = Ok false
 lines_end (Err why) = Err (halt_of_lines why)
 
--- how a run ends whose tables of a capture ended so (own)
-abbrev pub tables_end : Result Bool JudgingHalt → Result Bool Halt
-tables_end (Ok amiss) = Ok amiss
-tables_end (Err why) = Err (halt_of_judging why)
+-- how a run ends whose lines or tables of a capture that is judged ended so (own)
+abbrev pub judged_end : Result Bool WalkHalt → Result Bool Halt
+judged_end (Ok amiss) = Ok amiss
+judged_end (Err why) = Err (halt_of_walk why)
 
 -- how a run ends that says of keys whether they may go: unless all may, that is amiss; where there
 -- are none, it ends early (own)
-abbrev pub retiring_end : Result Retiring JudgingHalt → Result Bool Halt
+abbrev pub retiring_end : Result Retiring WalkHalt → Result Bool Halt
 retiring_end (Ok retiring.Yes) = Ok false
 retiring_end (Ok retiring.NotYes) = Ok true
 retiring_end (Ok retiring.NoSuchRow) = Err halt.NoSuchKey
-retiring_end (Err why) = Err (halt_of_judging why)
+retiring_end (Err why) = Err (halt_of_walk why)
 
 -- how a run ends whose ladder ended so; nothing is amiss in it (own)
 abbrev pub ladder_end : (number : ℕ) → Result (Unit {0}) LadderHalt → Result Bool Halt
@@ -102,6 +95,6 @@ ladder_end number (Ok done) = Ok false
 ladder_end number (Err why) = Err (halt_of_ladder number why)
 
 -- how a run ends whose answer on a packet ended so: it is amiss where the packet doesn't pass (own)
-abbrev pub why_end : Result Bool JudgingHalt → Result Bool Halt
+abbrev pub why_end : Result Bool WalkHalt → Result Bool Halt
 why_end (Ok passes) = Ok (not passes)
-why_end (Err why) = Err (halt_of_judging why)
+why_end (Err why) = Err (halt_of_walk why)

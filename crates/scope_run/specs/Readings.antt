@@ -3,6 +3,7 @@ use Rattle.std.specs.Prelude.{◌≡◌, ℕ, ◌+◌, ◌<◌, ◌≤◌, Bool,
 use Rattle.std.specs.Prelude.{Result, Ok, Err, IfOk, IfErr}
 use Rattle.ao_base.specs.Outside.{Side, Gave, Rose, IsAtEnd}
 use Rattle.book_keys.specs.declared.fault.TableFault.{TableFault}
+use Rattle.book_cmd_check.specs.declared.given.GivenIsns.{GivenIsns}
 use Rattle.book_lines.specs.declared.text_fault.TextFault.{TextFault}
 use Rattle.book_lines.specs.declared.text_fault.TextFault.TheVariants as lines
 use Rattle.book_scope_run.specs.declared.halt.Halt.{Halt}
@@ -11,9 +12,11 @@ use Rattle.book_scope_run.specs.declared.halt.Origin.{Origin}
 use Rattle.book_scope_run.specs.declared.halt.Origin.TheVariants.{KeyFile, IsnFile}
 use Rattle.book_scope_run.specs.Endings.{most_from}
 use Rattle.book_scope_plan.specs.AdminNames.{KeyFile as Sheets}
-use Rattle.key_file.specs.KeyFiles.{key_file_of}
+use Rattle.book_sessions.specs.GivenLines.{given_isns_of}
+use Rattle.key_file.specs.KeyFiles.{key_file_in, key_file_of}
 use Rattle.key_file.specs.declared.reading.KeyFile.{KeyFile as FileRead}
 use Rattle.scope_run.specs.declared.reading.Files.{Files}
+use Rattle.scope_run.specs.declared.reading.Judged.{Judged}
 use Rattle.scope_run.specs.Sides.{Unread}
 
 -- how reading from there ends early: a read failed, too many bytes came, or memory ran out (own)
@@ -71,12 +74,43 @@ IsnsFail (halt.IsnLine n kind) read = read ≡ Err (lines.Line n kind)
 IsnsFail halt.Memory read = Unit {0}
 IsnsFail other read = ⊥
 
--- what given initial sequence numbers are is answered, or why they are refused (own)
-abbrev pub IsnsGive : {A : Type 0} → Result A TextFault → Result A Halt → Type 0
-IsnsGive read (Ok isns) = read ≡ Ok isns
-IsnsGive read (Err why) = IsnsFail why read
-
 -- a key file that was read, as the book has it (own)
 abbrev pub sheets_of : Result FileRead Halt → Result Sheets Halt
 sheets_of (Ok file) = Ok (key_file_of file)
 sheets_of (Err why) = Err why
+
+-- the key file, and the initial sequence numbers that are given (own)
+pub record JudgedFiles : Type 0 where
+  pub file : Sheets
+  pub isns : List GivenIsns
+
+-- both as the book has them (own)
+abbrev pub judged_files : Result Judged Halt → Result JudgedFiles Halt
+judged_files (Ok judged) = Ok (record { file = key_file_of judged.file; isns = judged.isns.items })
+judged_files (Err why) = Err why
+
+-- behind a key file that is taken, the initial sequence numbers of this text are judged (own)
+abbrev pub JudgesIsns : (isns : List ℕ) → Result Sheets Halt → Result JudgedFiles Halt → Type 0
+JudgesIsns isns (Ok file) (Ok judged) =
+    (judged.file ≡ file) × (given_isns_of isns ≡ Ok judged.isns)
+JudgesIsns isns (Ok file) (Err why) = IsnsFail why (given_isns_of isns)
+JudgesIsns isns (Err why) result = result ≡ Err why
+
+-- the texts of both files are judged, the key file first (own)
+abbrev pub JudgesTexts : (keys isns : List ℕ) → Result JudgedFiles Halt → Type 0
+JudgesTexts keys isns result =
+    (file : Result Sheets Halt) × KeysGive (key_file_in keys) file × JudgesIsns isns file result
+
+-- the same where they were read; else that ended all (own)
+abbrev pub JudgesFiles : Result Files Halt → Result JudgedFiles Halt → Type 0
+JudgesFiles (Ok files) result = JudgesTexts files.keys files.isns result
+JudgesFiles (Err why) result = result ≡ Err why
+
+-- the key file is read, then the initial sequence numbers, where the words ask for them; and then
+-- they are judged, the key file first (own)
+abbrev pub ReadsJudged : (asked : Bool) → (keys isns : List ℕ) →
+    (keys_before keys_now isns_before isns_now : Side) → Result JudgedFiles Halt → Type 0
+ReadsJudged asked keys isns keys_before keys_now isns_before isns_now result =
+    (files : Result Files Halt)
+    × ReadsFiles asked keys isns keys_before keys_now isns_before isns_now files
+    × JudgesFiles files result

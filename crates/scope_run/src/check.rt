@@ -5,21 +5,24 @@ ghost use Rattle.scope_run.specs.Acts.{Checks, ReadsAndChecks};
 ghost use Rattle.scope_run.specs.Sides.{Flow, Given, Sides};
 
 use crate::asked::CheckAsked;
-use crate::halt::halt_of_judging;
-use crate::reading::{Files, read_files};
+use crate::halt::halt_of_walk;
+use crate::reading::judged_from;
 use ao_base::{Sink, Source};
 use book_scope_run::Halt;
-use scope_check::write_checked;
+use book_sessions::GivenIsns;
+use key_table::Tables;
+use packet_check::check_capture;
 use std::alloc::Global;
 
 fn write_lines<I: Source, O: Sink>(
     alloc: Global,
     all: bool,
-    files: &Files,
+    tables: Tables,
+    isns: &[GivenIsns],
     input: &mut I,
     out: &mut O,
 ) -> Result<bool, Halt>
-    ensures { (i : List ℕ) × Checks all files.now.keys files.now.isns
+    ensures { (i : List ℕ) × Checks all tables isns.now
         (record {
           given = i;
           input_before = I.side input.old;
@@ -28,10 +31,9 @@ fn write_lines<I: Source, O: Sink>(
           out_now = O.side out.new;
         }) result }
 {
-    let (keys, isns) = (files.keys.as_slice(), files.isns.as_slice());
-    match write_checked(alloc, all, keys, isns, input, out) {
+    match check_capture(alloc, all, tables, isns, input, out) {
         Ok(is_amiss) => Ok(is_amiss),
-        Err(halt) => Err(halt_of_judging(halt)),
+        Err(halt) => Err(halt_of_walk(halt)),
     }
 }
 
@@ -49,8 +51,15 @@ pub(crate) fn act<K: Source, J: Source, I: Source, O: Sink>(
         (record { keys = K.side keys.new; isns = J.side isns.new; input = I.side input.new; out = O.side out.new })
         result }
 {
-    match read_files(alloc, asked.has_isns, keys, isns) {
-        Ok(files) => write_lines(alloc, asked.all, &files, input, out),
+    match judged_from(alloc, asked.has_isns, keys, isns) {
+        Ok(judged) => write_lines(
+            alloc,
+            asked.all,
+            judged.file.tables,
+            judged.isns.as_slice(),
+            input,
+            out,
+        ),
         Err(why) => Err(why),
     }
 }

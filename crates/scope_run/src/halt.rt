@@ -1,17 +1,17 @@
 //! Why a run ends early, by what the calls below answer, and the status of a run.
 ghost use Rattle.std.specs.Prelude.{◌≡◌};
 ghost use Rattle.book_scope_run.specs.Endings.{halt_status, long_status, status_at};
-ghost use Rattle.scope_run.specs.Halts.{halt_of_isns, halt_of_judging, halt_of_keys, halt_of_ladder};
-ghost use Rattle.scope_run.specs.Halts.{halt_of_lines, halt_of_reading, halt_of_stop, halt_of_words};
+ghost use Rattle.scope_run.specs.Halts.{halt_of_isns, halt_of_keys, halt_of_ladder, halt_of_lines};
+ghost use Rattle.scope_run.specs.Halts.{halt_of_reading, halt_of_stop, halt_of_walk, halt_of_words};
 
 use ao_base::ReadProblem;
 use book_lines::TextFault;
 use book_scope_run::{Halt, Origin};
+use capture_walk::WalkHalt;
 use command_report::Stop;
 use key_table::TableFault;
 use scope_ladder::LadderHalt;
 use scope_lines::LinesHalt;
-use scope_sessions::JudgingHalt;
 
 /// Why all ends where reading from there does.
 pub(crate) fn halt_of_reading(from: Origin, problem: ReadProblem) -> Halt
@@ -84,19 +84,16 @@ pub(crate) fn halt_of_lines(halt: LinesHalt) -> Halt
     }
 }
 
-/// Why all ends where a capture is judged, and that does.
-pub(crate) fn halt_of_judging(halt: JudgingHalt) -> Halt
-    ensures { result ≡ halt_of_judging halt }
+/// Why all ends where the walk over a capture does.
+pub(crate) fn halt_of_walk(halt: WalkHalt) -> Halt
+    ensures { result ≡ halt_of_walk halt }
 {
     match halt {
-        JudgingHalt::Keys(fault) => halt_of_keys(fault),
-        JudgingHalt::IsnLine(number, kind) => Halt::IsnLine(number, kind),
-        JudgingHalt::TooManyIsns => Halt::TooManyIsns,
-        JudgingHalt::Broken(fault) => Halt::Broken(fault),
-        JudgingHalt::TooLong => Halt::TooLong(Origin::Input),
-        JudgingHalt::Read => Halt::Read(Origin::Input),
-        JudgingHalt::Write => Halt::Write,
-        JudgingHalt::Memory => Halt::Memory,
+        WalkHalt::Broken(fault) => Halt::Broken(fault),
+        WalkHalt::TooLong => Halt::TooLong(Origin::Input),
+        WalkHalt::Read => Halt::Read(Origin::Input),
+        WalkHalt::Write => Halt::Write,
+        WalkHalt::Memory => Halt::Memory,
     }
 }
 
@@ -106,11 +103,7 @@ pub(crate) fn halt_of_ladder(number: u64, halt: LadderHalt) -> Halt
 {
     match halt {
         LadderHalt::NoSession(many) => Halt::NoSession(number, many),
-        LadderHalt::Broken(fault) => Halt::Broken(fault),
-        LadderHalt::TooLong => Halt::TooLong(Origin::Input),
-        LadderHalt::Read => Halt::Read(Origin::Input),
-        LadderHalt::Write => Halt::Write,
-        LadderHalt::Memory => Halt::Memory,
+        LadderHalt::Walk(halt) => halt_of_walk(halt),
     }
 }
 

@@ -1,13 +1,13 @@
 //! `sessions --draw`: a session of a capture as a ladder.
 ghost use Rattle.std.specs.Prelude.{◌≡◌, ℕ, List, None, Some};
 ghost use Rattle.ao_base.specs.Outside.{Side};
-ghost use Rattle.scope_run.specs.Acts.{DrawsBy, DrawsOver, DrawsSession, ReadsAndDraws, SessionsBy};
+ghost use Rattle.scope_run.specs.Acts.{DrawsBy, ReadsAndDraws, SessionsBy};
 ghost use Rattle.scope_run.specs.Requests.{ladder_form_of, ladder_wanted};
 ghost use Rattle.scope_run.specs.Sides.{Flow, Given, Sides};
 
 use crate::asked::SessionsAsked;
 use crate::halt::halt_of_ladder;
-use crate::reading::{Files, isns_in, read_files, tables_in};
+use crate::reading::judged_from;
 use crate::words::{drawn_alone, laps_asked, session_asked, within_asked};
 use ao_base::{Sink, Source};
 use book_scope_run::Halt;
@@ -65,51 +65,6 @@ fn draw_by<I: Source, O: Sink>(
     }
 }
 
-fn draw_over<I: Source, O: Sink>(
-    alloc: Global,
-    wanted: LadderRequest,
-    isns: &[u8],
-    tables: Tables,
-    input: &mut I,
-    out: &mut O,
-) -> Result<bool, Halt>
-    ensures { (i : List ℕ) × DrawsOver wanted isns.now tables
-        (record {
-          given = i;
-          input_before = I.side input.old;
-          input_now = I.side input.new;
-          out_before = O.side out.old;
-          out_now = O.side out.new;
-        }) result }
-{
-    match isns_in(alloc, isns) {
-        Ok(given) => draw_by(alloc, wanted, tables, given.as_slice(), input, out),
-        Err(why) => Err(why),
-    }
-}
-
-fn draw_from<I: Source, O: Sink>(
-    alloc: Global,
-    wanted: LadderRequest,
-    files: &Files,
-    input: &mut I,
-    out: &mut O,
-) -> Result<bool, Halt>
-    ensures { (i : List ℕ) × DrawsSession wanted files.now.keys files.now.isns
-        (record {
-          given = i;
-          input_before = I.side input.old;
-          input_now = I.side input.new;
-          out_before = O.side out.old;
-          out_now = O.side out.new;
-        }) result }
-{
-    match tables_in(alloc, files.keys.as_slice()) {
-        Ok(tables) => draw_over(alloc, wanted, files.isns.as_slice(), tables, input, out),
-        Err(why) => Err(why),
-    }
-}
-
 fn read_and_draw<K: Source, J: Source, I: Source, O: Sink>(
     alloc: Global,
     wanted: LadderRequest,
@@ -124,8 +79,15 @@ fn read_and_draw<K: Source, J: Source, I: Source, O: Sink>(
         (record { keys = K.side keys.new; isns = J.side isns.new; input = I.side input.new; out = O.side out.new })
         result }
 {
-    match read_files(alloc, has_isns, keys, isns) {
-        Ok(files) => draw_from(alloc, wanted, &files, input, out),
+    match judged_from(alloc, has_isns, keys, isns) {
+        Ok(judged) => draw_by(
+            alloc,
+            wanted,
+            judged.file.tables,
+            judged.isns.as_slice(),
+            input,
+            out,
+        ),
         Err(why) => Err(why),
     }
 }

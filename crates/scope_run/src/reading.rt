@@ -4,9 +4,10 @@ ghost use Rattle.ao_base.specs.Outside.{Side};
 ghost use Rattle.book_keys.specs.Nodes.{tables_of};
 ghost use Rattle.book_scope_run.specs.Endings.{most_from};
 ghost use Rattle.book_sessions.specs.GivenLines.{given_isns_of};
-ghost use Rattle.scope_sessions.specs.Halts.{key_file_in};
+ghost use Rattle.key_file.specs.KeyFiles.{key_file_in, key_file_of};
 ghost use Rattle.scope_run.specs.Acts.{ReadsKeys};
-ghost use Rattle.scope_run.specs.Readings.{sheets_of, IsnsFail, KeysGive, ReadsFiles, ReadsIf, ReadsWhole};
+ghost use Rattle.scope_run.specs.Readings.{judged_files, sheets_of, IsnsFail, JudgesIsns, JudgesTexts, KeysGive};
+ghost use Rattle.scope_run.specs.Readings.{ReadsFiles, ReadsIf, ReadsJudged, ReadsWhole};
 
 use crate::halt::{halt_of_isns, halt_of_keys, halt_of_reading};
 use ao_base::{Source, read_all};
@@ -31,6 +32,13 @@ pub(crate) struct Files {
     pub(crate) isns: Bytes,
 }
 
+/// The key file, and the initial sequence numbers that are given.
+#[derive(Drop)]
+pub(crate) struct Judged {
+    pub(crate) file: KeyFile,
+    pub(crate) isns: Vec<GivenIsns>,
+}
+
 fn most_from(from: Origin) -> u64
     ensures { result ≡ most_from from }
 {
@@ -52,7 +60,7 @@ pub(crate) fn read_whole<S: Source>(alloc: Global, from: Origin, src: &mut S) ->
 }
 
 /// All bytes that come from there, where the words ask for them; else none.
-pub(crate) fn read_if<S: Source>(
+fn read_if<S: Source>(
     alloc: Global,
     is_asked: bool,
     from: Origin,
@@ -67,28 +75,8 @@ pub(crate) fn read_if<S: Source>(
     }
 }
 
-/// The text of the key file, and then that of the file of initial sequence numbers, where the words ask for it.
-pub(crate) fn read_files<K: Source, J: Source>(
-    alloc: Global,
-    has_isns: bool,
-    keys: &mut K,
-    isns: &mut J,
-) -> Result<Files, Halt>
-    ensures { (k j : List ℕ) ×
-        ReadsFiles has_isns k j (K.side keys.old) (K.side keys.new) (J.side isns.old) (J.side isns.new) result }
-{
-    let keys = match read_whole(alloc, Origin::KeyFile, keys) {
-        Ok(keys) => keys,
-        Err(why) => return Err(why),
-    };
-    match read_if(alloc, has_isns, Origin::IsnFile, isns) {
-        Ok(isns) => Ok(Files { keys, isns }),
-        Err(why) => Err(why),
-    }
-}
-
 /// The tables of a key file.
-pub(crate) fn tables_in(alloc: Global, keys: &[u8]) -> Result<Tables, Halt>
+fn tables_in(alloc: Global, keys: &[u8]) -> Result<Tables, Halt>
     ensures { KeysGive (tables_of keys.now) result }
 {
     match read_tables(alloc, keys) {
@@ -98,7 +86,6 @@ pub(crate) fn tables_in(alloc: Global, keys: &[u8]) -> Result<Tables, Halt>
 }
 
 /// The key file that a text is, with its document.
-#[tactic(auto, using(crate::proofs::FileLaws::file_given, crate::proofs::FileLaws::file_fails))]
 fn key_file_in(alloc: Global, text: &[u8]) -> Result<KeyFile, Halt>
     ensures { KeysGive (key_file_in text.now) (sheets_of result) }
 {
@@ -129,12 +116,70 @@ pub(crate) fn key_file_from<K: Source>(alloc: Global, keys: &mut K) -> Result<Ke
 }
 
 /// The initial sequence numbers that lines give.
-pub(crate) fn isns_in(alloc: Global, isns: &[u8]) -> Result<Vec<GivenIsns>, Halt>
+fn isns_in(alloc: Global, isns: &[u8]) -> Result<Vec<GivenIsns>, Halt>
     ensures { MatchResult result (λ given. given_isns_of isns.now ≡ Ok given.items)
         (λ why. IsnsFail why (given_isns_of isns.now)) }
 {
     match read_given(alloc, isns) {
         Ok(given) => Ok(given),
         Err(fault) => Err(halt_of_isns(fault)),
+    }
+}
+
+/// The text of the key file, and then that of the file of initial sequence numbers, where the words ask for it.
+fn read_files<K: Source, J: Source>(
+    alloc: Global,
+    has_isns: bool,
+    keys: &mut K,
+    isns: &mut J,
+) -> Result<Files, Halt>
+    ensures { (k j : List ℕ) ×
+        ReadsFiles has_isns k j (K.side keys.old) (K.side keys.new) (J.side isns.old) (J.side isns.new) result }
+{
+    let keys = match read_whole(alloc, Origin::KeyFile, keys) {
+        Ok(keys) => keys,
+        Err(why) => return Err(why),
+    };
+    match read_if(alloc, has_isns, Origin::IsnFile, isns) {
+        Ok(isns) => Ok(Files { keys, isns }),
+        Err(why) => Err(why),
+    }
+}
+
+/// This key file, and the initial sequence numbers of a text, which are judged here.
+fn judge_isns(alloc: Global, file: KeyFile, isns: &[u8]) -> Result<Judged, Halt>
+    ensures { JudgesIsns isns.now (Ok (key_file_of file)) (judged_files result) }
+{
+    match isns_in(alloc, isns) {
+        Ok(isns) => Ok(Judged { file, isns }),
+        Err(why) => Err(why),
+    }
+}
+
+/// The texts of both files are judged, the key file first.
+fn judge_texts(alloc: Global, files: &Files) -> Result<Judged, Halt>
+    ensures { JudgesTexts files.now.keys files.now.isns (judged_files result) }
+{
+    match key_file_in(alloc, files.keys.as_slice()) {
+        Ok(file) => judge_isns(alloc, file, files.isns.as_slice()),
+        Err(why) => Err(why),
+    }
+}
+
+/// The key file is read here, and then the initial sequence numbers, where the words ask for them; and then they are
+/// judged, the key file first.
+pub(crate) fn judged_from<K: Source, J: Source>(
+    alloc: Global,
+    has_isns: bool,
+    keys: &mut K,
+    isns: &mut J,
+) -> Result<Judged, Halt>
+    ensures { (k j : List ℕ) ×
+        ReadsJudged has_isns k j (K.side keys.old) (K.side keys.new) (J.side isns.old) (J.side isns.new)
+        (judged_files result) }
+{
+    match read_files(alloc, has_isns, keys, isns) {
+        Ok(files) => judge_texts(alloc, &files),
+        Err(why) => Err(why),
     }
 }

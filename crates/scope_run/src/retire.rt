@@ -1,18 +1,22 @@
 //! `sessions --retire`: whether the keys that a word names may go.
 ghost use Rattle.std.specs.Prelude.{◌≡◌, ℕ, List, Option, Some, option_map};
 ghost use Rattle.ao_base.specs.Outside.{Side};
+ghost use Rattle.key_file.specs.KeyFiles.{key_file_of};
 ghost use Rattle.scope_run.specs.Acts.{ReadsAndRetires, Retires, SessionsBy};
 ghost use Rattle.scope_run.specs.Halts.{retiring_end};
 ghost use Rattle.scope_run.specs.Requests.{retiring_wanted};
 ghost use Rattle.scope_run.specs.Sides.{Flow, Given, Sides};
 
 use crate::asked::SessionsAsked;
-use crate::halt::halt_of_judging;
-use crate::reading::{Files, read_files};
+use crate::halt::halt_of_walk;
+use crate::reading::judged_from;
 use crate::words::{laps_asked, retired_alone};
 use ao_base::{Sink, Source};
 use book_scope_run::Halt;
-use scope_sessions::{JudgingHalt, Retiring, write_retiring};
+use book_sessions::GivenIsns;
+use capture_walk::WalkHalt;
+use key_file::KeyFile;
+use scope_sessions::{Retiring, write_retiring};
 use std::alloc::Global;
 
 fn retiring_wanted(asked: &SessionsAsked<'_>) -> Result<u32, Halt>
@@ -27,14 +31,14 @@ fn retiring_wanted(asked: &SessionsAsked<'_>) -> Result<u32, Halt>
     laps_asked(asked.laps)
 }
 
-fn retiring_end(told: Result<Retiring, JudgingHalt>) -> Result<bool, Halt>
+fn retiring_end(told: Result<Retiring, WalkHalt>) -> Result<bool, Halt>
     ensures { result ≡ retiring_end told }
 {
     match told {
         Ok(Retiring::Yes) => Ok(false),
         Ok(Retiring::NotYes) => Ok(true),
         Ok(Retiring::NoSuchRow) => Err(Halt::NoSuchKey),
-        Err(halt) => Err(halt_of_judging(halt)),
+        Err(halt) => Err(halt_of_walk(halt)),
     }
 }
 
@@ -42,11 +46,12 @@ fn write_lines<I: Source, O: Sink>(
     alloc: Global,
     word: &[u8],
     laps: u32,
-    files: &Files,
+    file: KeyFile,
+    isns: &[GivenIsns],
     input: &mut I,
     out: &mut O,
 ) -> Result<bool, Halt>
-    ensures { (i : List ℕ) × Retires word.now laps files.now.keys files.now.isns
+    ensures { (i : List ℕ) × Retires word.now laps (key_file_of file) isns.now
         (record {
           given = i;
           input_before = I.side input.old;
@@ -55,8 +60,7 @@ fn write_lines<I: Source, O: Sink>(
           out_now = O.side out.new;
         }) result }
 {
-    let (keys, isns) = (files.keys.as_slice(), files.isns.as_slice());
-    retiring_end(write_retiring(alloc, word, laps, keys, isns, input, out))
+    retiring_end(write_retiring(alloc, word, laps, file, isns, input, out))
 }
 
 fn read_and_write<K: Source, J: Source, I: Source, O: Sink>(
@@ -74,8 +78,16 @@ fn read_and_write<K: Source, J: Source, I: Source, O: Sink>(
         (record { keys = K.side keys.new; isns = J.side isns.new; input = I.side input.new; out = O.side out.new })
         result }
 {
-    match read_files(alloc, has_isns, keys, isns) {
-        Ok(files) => write_lines(alloc, word, laps, &files, input, out),
+    match judged_from(alloc, has_isns, keys, isns) {
+        Ok(judged) => write_lines(
+            alloc,
+            word,
+            laps,
+            judged.file,
+            judged.isns.as_slice(),
+            input,
+            out,
+        ),
         Err(why) => Err(why),
     }
 }

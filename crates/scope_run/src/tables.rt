@@ -1,16 +1,19 @@
 //! `sessions`: the tables of a capture.
 ghost use Rattle.std.specs.Prelude.{◌≡◌, ℕ, List, None};
 ghost use Rattle.ao_base.specs.Outside.{Side};
+ghost use Rattle.key_file.specs.KeyFiles.{key_file_of};
 ghost use Rattle.scope_run.specs.Acts.{ReadsAndTabulates, SessionsBy, Tabulates};
 ghost use Rattle.scope_run.specs.Requests.{table_form_of, tables_wanted};
 ghost use Rattle.scope_run.specs.Sides.{Flow, Given, Sides};
 
 use crate::asked::SessionsAsked;
-use crate::halt::halt_of_judging;
-use crate::reading::{Files, read_files};
+use crate::halt::halt_of_walk;
+use crate::reading::judged_from;
 use crate::words::{every_asked, laps_asked};
 use ao_base::{Sink, Source};
 use book_scope_run::Halt;
+use book_sessions::GivenIsns;
+use key_file::KeyFile;
 use scope_sessions::{TableForm, TableRequest, write_sessions};
 use std::alloc::Global;
 
@@ -47,11 +50,12 @@ fn tables_wanted(asked: &SessionsAsked<'_>) -> Result<TablesWanted, Halt>
 fn write_tables<I: Source, O: Sink>(
     alloc: Global,
     wanted: TablesWanted,
-    files: &Files,
+    file: KeyFile,
+    isns: &[GivenIsns],
     input: &mut I,
     out: &mut O,
 ) -> Result<bool, Halt>
-    ensures { (i : List ℕ) × Tabulates wanted files.now.keys files.now.isns
+    ensures { (i : List ℕ) × Tabulates wanted (key_file_of file) isns.now
         (record {
           given = i;
           input_before = I.side input.old;
@@ -60,10 +64,9 @@ fn write_tables<I: Source, O: Sink>(
           out_now = O.side out.new;
         }) result }
 {
-    let (keys, isns) = (files.keys.as_slice(), files.isns.as_slice());
-    match write_sessions(alloc, wanted.request, wanted.laps, keys, isns, input, out) {
+    match write_sessions(alloc, wanted.request, wanted.laps, file, isns, input, out) {
         Ok(is_amiss) => Ok(is_amiss),
-        Err(halt) => Err(halt_of_judging(halt)),
+        Err(halt) => Err(halt_of_walk(halt)),
     }
 }
 
@@ -81,8 +84,15 @@ fn read_and_write<K: Source, J: Source, I: Source, O: Sink>(
         (record { keys = K.side keys.new; isns = J.side isns.new; input = I.side input.new; out = O.side out.new })
         result }
 {
-    match read_files(alloc, has_isns, keys, isns) {
-        Ok(files) => write_tables(alloc, wanted, &files, input, out),
+    match judged_from(alloc, has_isns, keys, isns) {
+        Ok(judged) => write_tables(
+            alloc,
+            wanted,
+            judged.file,
+            judged.isns.as_slice(),
+            input,
+            out,
+        ),
         Err(why) => Err(why),
     }
 }

@@ -1,16 +1,19 @@
 //! The word `why`.
 ghost use Rattle.std.specs.Prelude.{◌≡◌, ℕ, List};
 ghost use Rattle.ao_base.specs.Outside.{Side};
+ghost use Rattle.key_file.specs.KeyFiles.{key_file_of};
 ghost use Rattle.scope_run.specs.Acts.{Explains, ExplainsBy, ReadsAndExplains};
 ghost use Rattle.scope_run.specs.Requests.{why_wanted};
 ghost use Rattle.scope_run.specs.Sides.{Flow, Given, Sides};
 
 use crate::asked::PacketAsked;
-use crate::halt::halt_of_judging;
-use crate::reading::{Files, read_files};
+use crate::halt::halt_of_walk;
+use crate::reading::judged_from;
 use crate::words::numbered_packet;
 use ao_base::{Sink, Source};
 use book_scope_run::Halt;
+use book_sessions::GivenIsns;
+use key_file::KeyFile;
 use scope_why::{WhyRequest, write_why};
 use std::alloc::Global;
 
@@ -27,11 +30,12 @@ fn why_wanted(asked: &PacketAsked<'_>) -> Result<WhyRequest, Halt>
 fn explain<I: Source, O: Sink>(
     alloc: Global,
     wanted: WhyRequest,
-    files: &Files,
+    file: KeyFile,
+    isns: &[GivenIsns],
     input: &mut I,
     out: &mut O,
 ) -> Result<bool, Halt>
-    ensures { (i : List ℕ) × Explains wanted files.now.keys files.now.isns
+    ensures { (i : List ℕ) × Explains wanted (key_file_of file) isns.now
         (record {
           given = i;
           input_before = I.side input.old;
@@ -40,10 +44,9 @@ fn explain<I: Source, O: Sink>(
           out_now = O.side out.new;
         }) result }
 {
-    let (keys, isns) = (files.keys.as_slice(), files.isns.as_slice());
-    match write_why(alloc, wanted, keys, isns, input, out) {
+    match write_why(alloc, wanted, file, isns, input, out) {
         Ok(passes) => Ok(!passes),
-        Err(halt) => Err(halt_of_judging(halt)),
+        Err(halt) => Err(halt_of_walk(halt)),
     }
 }
 
@@ -61,8 +64,15 @@ fn read_and_explain<K: Source, J: Source, I: Source, O: Sink>(
         (record { keys = K.side keys.new; isns = J.side isns.new; input = I.side input.new; out = O.side out.new })
         result }
 {
-    match read_files(alloc, has_isns, keys, isns) {
-        Ok(files) => explain(alloc, wanted, &files, input, out),
+    match judged_from(alloc, has_isns, keys, isns) {
+        Ok(judged) => explain(
+            alloc,
+            wanted,
+            judged.file,
+            judged.isns.as_slice(),
+            input,
+            out,
+        ),
         Err(why) => Err(why),
     }
 }

@@ -25,10 +25,8 @@ use Rattle.capture_walk.specs.Hearing.{Adds, Hears}
 use Rattle.capture_walk.specs.Walks.{Walks}
 use Rattle.capture_walk.proofs.Showing.{read_now, shown_none}
 use Rattle.capture_walk.proofs.Taken.{all_none}
-use Rattle.scope_sessions.specs.declared.count.CountHalt.{CountHalt}
-use Rattle.scope_sessions.specs.declared.count.CountHalt.TheVariants as halt
 use Rattle.scope_sessions.specs.Counting.{CountsPacket, StandsAfter}
-use Rattle.scope_sessions.specs.Halts.{keys_at}
+use Rattle.key_file.specs.KeyFiles.{keys_at}
 use Rattle.scope_sessions.specs.Reading.{Counts, counted_with, fault_behind}
 use Rattle.scope_sessions.specs.Texts.{BreaksText, WritesText}
 
@@ -55,7 +53,7 @@ unfolding early_text
 early_none s = refl
 
 -- memory ran out before the first part
-pub ends_none : (s : Series) (source out : Side) → Counts s [] source source out out (Err halt.Memory)
+pub ends_none : (s : Series) (source out : Side) → Counts s [] source source out out (Err walk_halt.Memory)
 ends_none s source out = record {
   gave = gave_none source;
   bytes = all_none;
@@ -184,6 +182,6 @@ counts_of s document request listener table since reader given a c o q (Err walk
 }
 
 -- the same, where that is how it ended
-pub counts_ended : (s : Series) (document : Members) (request : TableRequest) (listener : Hearing) (table : SessionTable) (since : Option ℕ) (reader : Reading) (given : List ℕ) (a c o q : Side) (result : Result WalkEnd WalkHalt) (ended : Result (Option CaptureFault) CountHalt)
+pub counts_ended : (s : Series) (document : Members) (request : TableRequest) (listener : Hearing) (table : SessionTable) (since : Option ℕ) (reader : Reading) (given : List ℕ) (a c o q : Side) (result : Result WalkEnd WalkHalt) (ended : Result (Option CaptureFault) WalkHalt)
     → ended ≡ fault_behind result → Walks (early_text s) (λ packets. StandsAfter s document request listener table since packets) (λ packets last. ⊥) reader given a c o q result → Counts s given a c o q (counted_with listener table ended)
 counts_ended s document request listener table since reader given a c o q result ended is w = rw is (counts_of s document request listener table since reader given a c o q result w)

@@ -1,6 +1,5 @@
 pub mod Counting
 pub mod Given
-pub mod Halts
 pub mod JsonParts
 pub mod KeyRows
 pub mod Reading

@@ -15,13 +15,11 @@ use Rattle.book_base.specs.Hexadecimal.{IsByte}
 use Rattle.capture_listener.specs.Listeners.{Hearing}
 use Rattle.capture_stream.specs.Reads.{most_read}
 use Rattle.scope_sessions.specs.declared.count.Counted.{Counted}
-use Rattle.scope_sessions.specs.declared.count.CountHalt.{CountHalt}
-use Rattle.scope_sessions.specs.declared.count.CountHalt.TheVariants as halt
 use Rattle.scope_sessions.specs.Texts.{BreaksText}
 use Rattle.capture_walk.specs.HasRead.{HasRead}
 use Rattle.capture_walk.specs.declared.walking.WalkEnd.{WalkEnd}
 use Rattle.capture_walk.specs.declared.walking.WalkHalt.{WalkHalt}
-use Rattle.capture_walk.specs.declared.walking.WalkHalt.TheVariants as walk_halt
+use Rattle.capture_walk.specs.declared.walking.WalkHalt.TheVariants as halt
 
 -- the source is at its end, where the capture has no fault; and where it has one, then whatever
 -- follows in the source
@@ -39,17 +37,17 @@ abbrev pub series_of : Members → List Table → (laps : ℕ) → List GivenIsn
 series_of document tables laps = series_behind document (record { tables = tables; laps = laps })
 
 -- the fault that a capture has behind its packets, if it has one, where its walk ended so
-abbrev pub fault_behind : Result WalkEnd WalkHalt → Result (Option CaptureFault) CountHalt
+abbrev pub fault_behind : Result WalkEnd WalkHalt → Result (Option CaptureFault) WalkHalt
 fault_behind (Ok how) = Ok None
-fault_behind (Err (walk_halt.Broken fault)) = Ok (Some fault)
-fault_behind (Err walk_halt.TooLong) = Err halt.TooLong
-fault_behind (Err walk_halt.Read) = Err halt.Read
-fault_behind (Err walk_halt.Write) = Err halt.Write
-fault_behind (Err walk_halt.Memory) = Err halt.Memory
+fault_behind (Err (halt.Broken fault)) = Ok (Some fault)
+fault_behind (Err halt.TooLong) = Err halt.TooLong
+fault_behind (Err halt.Read) = Err halt.Read
+fault_behind (Err halt.Write) = Err halt.Write
+fault_behind (Err halt.Memory) = Err halt.Memory
 
 -- what was counted, where that ended so
-abbrev pub counted_with : Hearing → SessionTable → Result (Option CaptureFault) CountHalt →
-    Result Counted CountHalt
+abbrev pub counted_with : Hearing → SessionTable → Result (Option CaptureFault) WalkHalt →
+    Result Counted WalkHalt
 counted_with listener index (Ok fault) =
     Ok (record { listener = listener; index = index; fault = fault })
 counted_with listener index (Err why) = Err why
@@ -85,9 +83,10 @@ pub record BreaksEarly (s : Series) (given : List ℕ) (out_before out_now : Sid
   pub breaks : BreaksText (early_text s read) (early_text s (read ++ last ∷ [])) out_before out_now
 
 -- how each end comes
-abbrev pub CountEnds : Series → List ℕ → (source_before source_now out_before out_now : Side) → Result Counted CountHalt → Type 0
+abbrev pub CountEnds : Series → List ℕ → (source_before source_now out_before out_now : Side) → Result Counted WalkHalt → Type 0
 CountEnds s given source_before source_now out_before out_now (Ok counted) =
     HasCounted s given source_now counted × WasWritten (early_text s (capture_of given).packets) out_before out_now
+CountEnds s given source_before source_now out_before out_now (Err (halt.Broken fault)) = ⊥
 CountEnds s given source_before source_now out_before out_now (Err halt.TooLong) = (most_read < length given) × Stops s given out_before out_now
 CountEnds s given source_before source_now out_before out_now (Err halt.Read) = Rose source_before source_now × Stops s given out_before out_now
 CountEnds s given source_before source_now out_before out_now (Err halt.Write) = BreaksEarly s given out_before out_now
@@ -95,7 +94,7 @@ CountEnds s given source_before source_now out_before out_now (Err halt.Memory) 
 
 -- the packets of a capture are counted, of which the source gave these bytes, and the tables written that are due in
 -- front of them
-pub record Counts (s : Series) (given : List ℕ) (source_before source_now out_before out_now : Side) (result : Result Counted CountHalt) : Type 0 where
+pub record Counts (s : Series) (given : List ℕ) (source_before source_now out_before out_now : Side) (result : Result Counted WalkHalt) : Type 0 where
   pub gave : Gave given source_before source_now
   pub bytes : All IsByte given
   pub ends : CountEnds s given source_before source_now out_before out_now result

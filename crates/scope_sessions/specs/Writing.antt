@@ -6,11 +6,7 @@ use Rattle.ao_base.specs.Outside.{Side, Gave, WasWritten, Rose, IsAtEnd, told}
 use Rattle.book_captures.specs.declared.capture_parts.CaptureFault.{CaptureFault}
 use Rattle.book_captures.specs.Captures.{CapturePacket, capture_of}
 use Rattle.book_cmd_check.specs.declared.given.GivenIsns.{GivenIsns}
-use Rattle.book_lines.specs.declared.text_fault.TextFault.{TextFault}
-use Rattle.book_lines.specs.declared.text_fault.TextFault.TheVariants as line_fault
-use Rattle.book_keys.specs.declared.fault.TableFault.{TableFault}
 use Rattle.book_scope_plan.specs.AdminNames.{KeyFile}
-use Rattle.book_sessions.specs.GivenLines.{given_isns_of}
 use Rattle.book_sessions.specs.Laps.{Judging}
 use Rattle.book_sessions.specs.declared.retiring.Retiring.{Retiring}
 use Rattle.book_sessions.specs.NamedKeys.{retire_lines, retiring_of}
@@ -24,10 +20,10 @@ use Rattle.page_sessions_json.specs.TableSeries.{Series, early_text, series_keys
 use Rattle.book_base.specs.Hexadecimal.{IsByte}
 use Rattle.capture_stream.specs.Reads.{most_read}
 use Rattle.scope_sessions.specs.declared.count.Counted.{Counted}
-use Rattle.scope_sessions.specs.declared.halt.JudgingHalt.{JudgingHalt}
-use Rattle.scope_sessions.specs.declared.halt.JudgingHalt.TheVariants as halt
-use Rattle.scope_sessions.specs.Halts.{Nothing, key_file_in, keys_at}
-use Rattle.scope_sessions.specs.Reading.{BreaksEarly, IsWhole, Lacks, Stops, series_of}
+use Rattle.capture_walk.specs.declared.walking.WalkHalt.{WalkHalt}
+use Rattle.capture_walk.specs.declared.walking.WalkHalt.TheVariants as halt
+use Rattle.key_file.specs.KeyFiles.{keys_at}
+use Rattle.scope_sessions.specs.Reading.{BreaksEarly, IsWhole, Lacks, Stops}
 use Rattle.scope_sessions.specs.Texts.{BreaksText}
 use Rattle.capture_walk.specs.HasRead.{HasRead}
 
@@ -75,40 +71,22 @@ pub record BreaksLast {A : Type 0} (r : Report A) (s : Series) (given : List ℕ
   pub breaks : BreaksText (early_text s (capture_of given).packets) (series_text r.text s (capture_of given).packets) out_before out_now
 
 -- how each end comes, where this is reported (own)
-abbrev pub Ends : {A : Type 0} → Report A → Series → List ℕ → (source_before source_now out_before out_now : Side) → Result A JudgingHalt → Type 0
+abbrev pub Ends : {A : Type 0} → Report A → Series → List ℕ → (source_before source_now out_before out_now : Side) → Result A WalkHalt → Type 0
 Ends r s given source_before source_now out_before out_now (Ok answer) = Finishes r s given source_now out_before out_now answer
-Ends r s given source_before source_now out_before out_now (Err (halt.Keys fault)) = ⊥
-Ends r s given source_before source_now out_before out_now (Err (halt.IsnLine n kind)) = ⊥
-Ends r s given source_before source_now out_before out_now (Err halt.TooManyIsns) = ⊥
 Ends r s given source_before source_now out_before out_now (Err (halt.Broken fault)) = Refuses r s given source_now out_before out_now fault
 Ends r s given source_before source_now out_before out_now (Err halt.TooLong) = (most_read < length given) × Stops s given out_before out_now
 Ends r s given source_before source_now out_before out_now (Err halt.Read) = Rose source_before source_now × Stops s given out_before out_now
 Ends r s given source_before source_now out_before out_now (Err halt.Write) = BreaksEarly s given out_before out_now ⊎ BreaksLast r s given source_now out_before out_now
 Ends r s given source_before source_now out_before out_now (Err halt.Memory) = Lacks s given out_before out_now
 
--- how each end comes by a key file: given lines that are refused end all before the capture is read (own)
-abbrev pub EndsWith : {A : Type 0} → Report A → TableRequest → (laps : ℕ) → KeyFile → Result (List GivenIsns) TextFault → List ℕ → (source_before source_now out_before out_now : Side) → Result A JudgingHalt → Type 0
-EndsWith r request laps keys (Ok isns) given source_before source_now out_before out_now result = Ends r (series_of keys.document keys.tables laps isns request) given source_before source_now out_before out_now result
-EndsWith r request laps keys (Err why) given source_before source_now out_before out_now (Err (halt.IsnLine n kind)) = (why ≡ line_fault.Line n kind) × Nothing given out_before out_now
-EndsWith r request laps keys (Err why) given source_before source_now out_before out_now (Err halt.TooManyIsns) = (why ≡ line_fault.TooManyLines) × Nothing given out_before out_now
-EndsWith r request laps keys (Err why) given source_before source_now out_before out_now (Err halt.Memory) = Nothing given out_before out_now
-EndsWith r request laps keys (Err why) given source_before source_now out_before out_now other = ⊥
-
--- how each end comes: a key file that is refused ends all before the capture is read (own)
-abbrev pub EndsBy : {A : Type 0} → Report A → TableRequest → (laps : ℕ) → Result KeyFile TableFault → Result (List GivenIsns) TextFault → List ℕ → (source_before source_now out_before out_now : Side) → Result A JudgingHalt → Type 0
-EndsBy r request laps (Ok keys) isns given source_before source_now out_before out_now result = EndsWith r request laps keys isns given source_before source_now out_before out_now result
-EndsBy r request laps (Err why) isns given source_before source_now out_before out_now (Err (halt.Keys fault)) = (fault ≡ why) × Nothing given out_before out_now
-EndsBy r request laps (Err why) isns given source_before source_now out_before out_now (Err halt.Memory) = Nothing given out_before out_now
-EndsBy r request laps (Err why) isns given source_before source_now out_before out_now other = ⊥
-
--- what is reported of a capture is written, and the tables that are asked for in front of packets, of which the source gave these bytes, by the key file of this text and the given lines of that one (own)
-pub record Writes {A : Type 0} (r : Report A) (request : TableRequest) (laps : ℕ) (keys isns given : List ℕ) (source_before source_now out_before out_now : Side) (result : Result A JudgingHalt) : Type 0 where
+-- what is reported of a capture is written, and the tables that are asked for in front of packets, of which the source gave these bytes (own)
+pub record Writes {A : Type 0} (r : Report A) (s : Series) (given : List ℕ) (source_before source_now out_before out_now : Side) (result : Result A WalkHalt) : Type 0 where
   pub gave : Gave given source_before source_now
   pub bytes : All IsByte given
-  pub ends : EndsBy r request laps (key_file_in keys) (given_isns_of isns) given source_before source_now out_before out_now result
+  pub ends : Ends r s given source_before source_now out_before out_now result
 
 -- what is reported of what was counted is written
-abbrev pub WritesCounted : {A : Type 0} → Report A → Members → Counted → (out_before out_now : Side) → Result A JudgingHalt → Type 0
+abbrev pub WritesCounted : {A : Type 0} → Report A → Members → Counted → (out_before out_now : Side) → Result A WalkHalt → Type 0
 WritesCounted r document counted out_before out_now (Ok answer) = (counted.fault ≡ None) × (answer ≡ r.answer (keys_at document counted.listener.judging.tables) counted.index)
     × WasWritten (r.text (keys_at document counted.listener.judging.tables) counted.index) out_before out_now
 WritesCounted r document counted out_before out_now (Err (halt.Broken fault)) = (counted.fault ≡ Some fault)

@@ -29,19 +29,6 @@ use std::sync::ledger::{Blank, Ledger};
 /// How many nanoseconds a second has.
 const NANOSECONDS: u64 = 1_000_000_000;
 
-/// Why not all packets of a capture were counted.
-#[derive(Clone, Copy)]
-pub(crate) enum CountHalt {
-    /// The source gave more than 2^63 bytes.
-    TooLong,
-    /// A read failed.
-    Read,
-    /// A write failed.
-    Write,
-    /// Memory ran out.
-    Memory,
-}
-
 /// The packets of a capture, counted; the fault that the capture has behind them, if it has one; and the
 /// listener that judged them, with its tables.
 #[derive(Drop)]
@@ -167,24 +154,24 @@ impl Hearer for PacketCounter<'_> {
 }
 
 // The fault that the capture has behind its packets, if it has one, where the walk ended so.
-fn ended(walked: Result<WalkEnd, WalkHalt>) -> Result<Option<CaptureFault>, CountHalt>
+fn ended(walked: Result<WalkEnd, WalkHalt>) -> Result<Option<CaptureFault>, WalkHalt>
     ensures { result ≡ fault_behind walked }
 {
     match walked {
         Ok(_) => Ok(None),
         Err(WalkHalt::Broken(fault)) => Ok(Some(fault)),
-        Err(WalkHalt::TooLong) => Err(CountHalt::TooLong),
-        Err(WalkHalt::Read) => Err(CountHalt::Read),
-        Err(WalkHalt::Write) => Err(CountHalt::Write),
-        Err(WalkHalt::Memory) => Err(CountHalt::Memory),
+        Err(WalkHalt::TooLong) => Err(WalkHalt::TooLong),
+        Err(WalkHalt::Read) => Err(WalkHalt::Read),
+        Err(WalkHalt::Write) => Err(WalkHalt::Write),
+        Err(WalkHalt::Memory) => Err(WalkHalt::Memory),
     }
 }
 
 /// Counts the packets of a capture, judged by the tables and over so many laps as behind handshakes with the
 /// given initial sequence numbers, up to its end or its fault, and writes each table that is due in front of a packet
 /// before that packet is counted. Read only where the source's count of faults rose; Write only where the
-/// sink's did; TooLong only where the source gave more than 2^63 bytes; and Memory for want of memory, or
-/// where 2^64 - 1 packets of one kind are counted.
+/// sink's did; TooLong only where the source gave more than 2^63 bytes; and Memory where memory ran out, or
+/// where 2^64 - 1 packets of one kind are counted. Broken doesn't come: the fault is beside what was counted.
 pub(crate) fn count_capture<I: Source, O: Sink>(
     alloc: Global,
     tables: Tables,
@@ -194,17 +181,17 @@ pub(crate) fn count_capture<I: Source, O: Sink>(
     request: TableRequest,
     input: &mut I,
     out: &mut O,
-) -> Result<Counted, CountHalt>
+) -> Result<Counted, WalkHalt>
     ensures { (given : List ℕ) × Counts (series_of (table_view document.now) tables laps isns.now request) given
         (I.side input.old) (I.side input.new) (O.side out.old) (O.side out.new) result }
 {
     let mut reader = match CaptureReader::new(alloc) {
         Ok(reader) => reader,
-        Err(_) => return Err(CountHalt::Memory),
+        Err(_) => return Err(WalkHalt::Memory),
     };
     let listener = match Listener::behind(alloc, tables, laps, isns) {
         Ok(listener) => listener,
-        Err(_) => return Err(CountHalt::Memory),
+        Err(_) => return Err(WalkHalt::Memory),
     };
     let index = SessionIndex::new(alloc);
     let mut counter = PacketCounter {

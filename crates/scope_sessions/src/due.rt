@@ -4,7 +4,7 @@ ghost use Rattle.toml.specs.View.{table_view};
 ghost use Rattle.ao_base.specs.Outside.{Side};
 ghost use Rattle.page_sessions_json.specs.Forms.{written_as};
 ghost use Rattle.page_sessions_json.specs.TableSeries.{counted_since, due_table, is_table_due, time_line};
-ghost use Rattle.scope_sessions.specs.Halts.{keys_at};
+ghost use Rattle.key_file.specs.KeyFiles.{keys_at};
 ghost use Rattle.scope_sessions.specs.Texts.{WritesText};
 
 use crate::json_table::push_json;

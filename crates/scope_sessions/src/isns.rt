@@ -75,6 +75,9 @@ fn read_lines(alloc: Global, mut lines: SayingLines) -> Result<Vec<GivenIsns>, T
 
 /// What the lines of a text give: of each line that says something two sockets, each with its initial
 /// sequence number. The fault of the text, unless memory ran out.
+///
+/// Each line that says something is `ADDRESS PORT ISN ADDRESS PORT ISN`: two sockets of one version of
+/// IP that differ, with addresses in their usual form, each with its initial sequence number.
 pub fn read_given(alloc: Global, text: &[u8]) -> Result<Vec<GivenIsns>, TextFault>
     ensures { MatchResult result (λ v. given_isns_of text.now ≡ Ok v.items) (λ e. Fails e (given_isns_of text.now)) }
 {

@@ -5,7 +5,7 @@ ghost use Rattle.toml.specs.View.{table_view};
 ghost use Rattle.page_sessions_json.specs.Json.{json_items, json_member};
 ghost use Rattle.page_sessions_json.specs.SessionJson.{asked_for_json, key_json, keys_json, last_used_json};
 ghost use Rattle.page_sessions_json.specs.SessionJson.{may_go_json, name_json, peers_json, rows_json};
-ghost use Rattle.scope_sessions.specs.Halts.{keys_at};
+ghost use Rattle.key_file.specs.KeyFiles.{keys_at};
 ghost use Rattle.scope_sessions.specs.JsonParts.{from_members, id_members, node_members, seen_members, state_members};
 ghost use Rattle.scope_sessions.specs.JsonParts.{told_members};
 

@@ -5,7 +5,7 @@ ghost use Rattle.book_sessions.specs.Retiring.{evidence_of};
 ghost use Rattle.page_sessions_json.specs.Json.{json_array, json_bool, json_member, json_object};
 ghost use Rattle.page_sessions_json.specs.SessionJson.{foreign_json, keys_json, packets_json, session_json};
 ghost use Rattle.page_sessions_json.specs.SessionJson.{sessions_json};
-ghost use Rattle.scope_sessions.specs.Halts.{keys_at};
+ghost use Rattle.key_file.specs.KeyFiles.{keys_at};
 
 use crate::foreign::{Numbers, numbers_of, segments_of};
 use crate::json_keys::push_keys;

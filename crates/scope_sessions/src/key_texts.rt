@@ -4,7 +4,7 @@ ghost use Rattle.toml.specs.View.{table_view};
 ghost use Rattle.book_lines.specs.Texts.{spaced};
 ghost use Rattle.book_scope_texts.specs.Addresses.{usual_address_text};
 ghost use Rattle.book_scope_texts.specs.Instants.{instant_text};
-ghost use Rattle.scope_sessions.specs.Halts.{keys_at};
+ghost use Rattle.key_file.specs.KeyFiles.{keys_at};
 ghost use Rattle.scope_sessions.specs.KeyRows.{found_line};
 ghost use Rattle.book_sessions.specs.KeyLines.{asking_texts, called_row, key_line, key_lines, keys_lines, last_texts};
 ghost use Rattle.book_sessions.specs.KeyLines.{may_go_text, peers_word, seen_peers_text};

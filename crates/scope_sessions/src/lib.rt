@@ -3,10 +3,8 @@
 #![tactic(auto)]
 
 mod count;
-mod document;
 mod due;
 mod foreign;
-mod halt;
 mod heard;
 mod isns;
 mod json_keys;
@@ -29,7 +27,6 @@ mod write;
 pub use book_lines::LineKind;
 pub use book_sessions::Retiring;
 pub use capture_listener::{mended, told_fault};
-pub use halt::{JudgingHalt, halt_of, halt_of_lines};
 pub use isns::read_given;
 pub use named_keys::retire_status;
 pub use page_sessions_json::{TableForm, TableRequest};

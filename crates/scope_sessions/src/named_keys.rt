@@ -8,7 +8,7 @@ ghost use Rattle.book_sessions.specs.NamedKeys.{retire_answer, retire_answers, r
 ghost use Rattle.book_sessions.specs.NamedKeys.{retire_status, retiring_of};
 ghost use Rattle.book_sessions.specs.KeyLines.{key_line};
 ghost use Rattle.book_sessions.specs.Retiring.{evidence_of, is_id, may_go};
-ghost use Rattle.scope_sessions.specs.Halts.{keys_at};
+ghost use Rattle.key_file.specs.KeyFiles.{keys_at};
 
 use crate::key_texts::push_key;
 use ao_base::read_decimal;

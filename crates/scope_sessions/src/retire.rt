@@ -2,16 +2,15 @@
 ghost use Rattle.std.specs.Prelude.{◌≡◌, ℕ, List};
 ghost use Rattle.toml.specs.View.{table_view};
 ghost use Rattle.ao_base.specs.Outside.{Side};
+ghost use Rattle.scope_sessions.specs.Reading.{series_of};
 ghost use Rattle.scope_sessions.specs.Writing.{Writes, WritesCounted, at_end, retire_report};
 
-use crate::count::{CountHalt, Counted, count_capture};
-use crate::document::read_document;
-use crate::halt::{JudgingHalt, halt_of, halt_of_lines};
-use crate::isns::read_given;
+use crate::count::{Counted, count_capture};
 use crate::named_keys::push_retiring;
 use ao_base::{Failed, Sink, Source, write_all};
-use book_sessions::Retiring;
-use key_table::read_tables;
+use book_sessions::{GivenIsns, Retiring};
+use capture_walk::WalkHalt;
+use key_file::KeyFile;
 use page_sessions_json::{TableForm, TableRequest};
 use std::alloc::Global;
 
@@ -29,7 +28,7 @@ fn write_counted<O: Sink>(
     document: &toml::Table,
     counted: &Counted,
     out: &mut O,
-) -> Result<Retiring, JudgingHalt>
+) -> Result<Retiring, WalkHalt>
     ensures { WritesCounted (retire_report word.now) (table_view document.now) counted.now (O.side out.old)
         (O.side out.new) result }
 {
@@ -37,15 +36,15 @@ fn write_counted<O: Sink>(
     let mut text = Vec::new(alloc);
     let told = match push_retiring(alloc, &mut text, word, document, tables, &counted.index) {
         Ok(told) => told,
-        Err(_) => return Err(JudgingHalt::Memory),
+        Err(_) => return Err(WalkHalt::Memory),
     };
     match write_all(out, text.as_slice()) {
         Ok(()) => {}
-        Err(Failed) => return Err(JudgingHalt::Write),
+        Err(Failed) => return Err(WalkHalt::Write),
     }
     match counted.fault {
         None => Ok(told),
-        Some(fault) => Err(JudgingHalt::Broken(fault)),
+        Some(fault) => Err(WalkHalt::Broken(fault)),
     }
 }
 
@@ -57,40 +56,18 @@ pub fn write_retiring<I: Source, O: Sink>(
     alloc: Global,
     word: &[u8],
     laps: u32,
-    keys: &[u8],
-    isns: &[u8],
+    file: KeyFile,
+    isns: &[GivenIsns],
     input: &mut I,
     out: &mut O,
-) -> Result<Retiring, JudgingHalt>
-    ensures { (given : List ℕ) × Writes (retire_report word.now) at_end laps keys.now isns.now given (I.side input.old)
+) -> Result<Retiring, WalkHalt>
+    ensures { (given : List ℕ) × Writes (retire_report word.now)
+        (series_of (table_view file.document) file.tables laps isns.now at_end) given (I.side input.old)
         (I.side input.new) (O.side out.old) (O.side out.new) result }
 {
-    let tables = match read_tables(alloc, keys) {
-        Ok(tables) => tables,
-        Err(fault) => return Err(halt_of(fault)),
-    };
-    let document = match read_document(alloc, keys) {
-        Ok(document) => document,
-        Err(fault) => return Err(halt_of(fault)),
-    };
-    let given = match read_given(alloc, isns) {
-        Ok(given) => given,
-        Err(fault) => return Err(halt_of_lines(fault)),
-    };
-    match count_capture(
-        alloc,
-        tables,
-        laps,
-        given.as_slice(),
-        &document,
-        AT_END,
-        input,
-        out,
-    ) {
+    let KeyFile { document, tables } = file;
+    match count_capture(alloc, tables, laps, isns, &document, AT_END, input, out) {
         Ok(counted) => write_counted(alloc, word, &document, &counted, out),
-        Err(CountHalt::TooLong) => Err(JudgingHalt::TooLong),
-        Err(CountHalt::Read) => Err(JudgingHalt::Read),
-        Err(CountHalt::Write) => Err(JudgingHalt::Write),
-        Err(CountHalt::Memory) => Err(JudgingHalt::Memory),
+        Err(halt) => Err(halt),
     }
 }

@@ -6,7 +6,7 @@ ghost use Rattle.book_sessions.specs.Counts.{all_counted, all_passed};
 ghost use Rattle.toml.specs.View.{table_view};
 ghost use Rattle.book_sessions.specs.SessionTexts.{lines_of_session, unset_line};
 ghost use Rattle.book_sessions.specs.TableTexts.{foreign_lines, has_amiss, is_none, sessions_text};
-ghost use Rattle.scope_sessions.specs.Halts.{keys_at};
+ghost use Rattle.key_file.specs.KeyFiles.{keys_at};
 
 use crate::foreign::{Numbers, have_unverified, numbers_of, push_foreign};
 use crate::key_texts::push_keys;

@@ -32,7 +32,7 @@ use Rattle.capture_stream.specs.Reads.{Reading, most_ahead, most_buffered, new_r
 use Rattle.capture_walk.proofs.Taken.{all_broken, all_ended, all_none, bytes_all, gave_all, has_read, no_more, none_shown, read_more, rose_read, shows_more, stays_broken, taken_more, taken_none, too_many}
 use Rattle.capture_walk.proofs.Showing.{read_now, shown_none}
 use Rattle.scope_why.specs.declared.answer.Answered.{Answered}
-use Rattle.scope_sessions.specs.declared.halt.JudgingHalt.TheVariants as halt
+use Rattle.capture_walk.specs.declared.walking.WalkHalt.TheVariants as halt
 use Rattle.scope_why.specs.Fronts.{StandsBehind, behind_one, stored_as}
 use Rattle.scope_why.specs.declared.shown.StoredBytes.{StoredBytes}
 use Rattle.scope_why.specs.Reading.{NoneHas, Reads, Stops}

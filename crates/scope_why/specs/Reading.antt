@@ -9,8 +9,8 @@ use Rattle.book_scope_plan.specs.AdminNames.{KeyFile}
 use Rattle.book_why_texts.specs.Answers.{WhyAsked, has_number, why_passes, why_text}
 use Rattle.capture_stream.specs.Reads.{most_buffered, most_read}
 use Rattle.scope_why.specs.declared.answer.Answered.{Answered}
-use Rattle.scope_sessions.specs.declared.halt.JudgingHalt.{JudgingHalt}
-use Rattle.scope_sessions.specs.declared.halt.JudgingHalt.TheVariants as halt
+use Rattle.capture_walk.specs.declared.walking.WalkHalt.{WalkHalt}
+use Rattle.capture_walk.specs.declared.walking.WalkHalt.TheVariants as halt
 use Rattle.capture_walk.specs.HasRead.{HasRead}
 
 -- none of these packets has this number
@@ -70,7 +70,7 @@ pub record Lacks (asked : WhyAsked) (given : List ℕ) : Type 0 where
 
 -- how each end comes
 abbrev pub ReadEnds : KeyFile → WhyAsked → List ℕ → (source_before source_now : Side) →
-    Result Answered JudgingHalt → Type 0
+    Result Answered WalkHalt → Type 0
 ReadEnds keys asked given source_before source_now (Ok answered) =
     IsAnswer keys asked given source_now answered.text.items answered.passes
 ReadEnds keys asked given source_before source_now (Err (halt.Broken fault)) =
@@ -80,11 +80,11 @@ ReadEnds keys asked given source_before source_now (Err halt.TooLong) =
 ReadEnds keys asked given source_before source_now (Err halt.Read) =
     Rose source_before source_now × Stops asked given
 ReadEnds keys asked given source_before source_now (Err halt.Memory) = Lacks asked given
-ReadEnds keys asked given source_before source_now (Err other) = ⊥
+ReadEnds keys asked given source_before source_now (Err halt.Write) = ⊥
 
 -- a capture is answered on, of which the source gave these bytes
 pub record Reads (keys : KeyFile) (asked : WhyAsked) (given : List ℕ)
-    (source_before source_now : Side) (result : Result Answered JudgingHalt) : Type 0 where
+    (source_before source_now : Side) (result : Result Answered WalkHalt) : Type 0 where
   pub gave : Gave given source_before source_now
   pub bytes : All IsByte given
   pub ends : ReadEnds keys asked given source_before source_now result

@@ -4,18 +4,13 @@ use Rattle.std.specs.List.{All}
 use Rattle.ao_base.specs.Outside.{Side, Gave, WasWritten, Rose}
 use Rattle.book_base.specs.Hexadecimal.{IsByte}
 use Rattle.book_cmd_check.specs.declared.given.GivenIsns.{GivenIsns}
-use Rattle.book_lines.specs.declared.text_fault.TextFault.{TextFault}
-use Rattle.book_lines.specs.declared.text_fault.TextFault.TheVariants as line_fault
-use Rattle.book_keys.specs.declared.fault.TableFault.{TableFault}
 use Rattle.book_scope_plan.specs.AdminNames.{KeyFile}
-use Rattle.book_sessions.specs.GivenLines.{given_isns_of}
 use Rattle.book_why_texts.specs.Answers.{WhyAsked}
 use Rattle.capture_stream.specs.Reads.{most_read}
-use Rattle.scope_sessions.specs.Halts.{Nothing, key_file_in}
 use Rattle.scope_sessions.specs.Texts.{BreaksText}
 use Rattle.scope_why.specs.declared.answer.Answered.{Answered}
-use Rattle.scope_sessions.specs.declared.halt.JudgingHalt.{JudgingHalt}
-use Rattle.scope_sessions.specs.declared.halt.JudgingHalt.TheVariants as halt
+use Rattle.capture_walk.specs.declared.walking.WalkHalt.{WalkHalt}
+use Rattle.capture_walk.specs.declared.walking.WalkHalt.TheVariants as halt
 use Rattle.scope_why.specs.declared.write.WhyRequest.{WhyRequest}
 use Rattle.scope_why.specs.Reading.{IsAnswer, Lacks, Refuses, Stops}
 
@@ -41,7 +36,7 @@ pub record Breaks (keys : KeyFile) (asked : WhyAsked) (given : List ℕ)
 
 -- how each end comes by a key file and given initial sequence numbers (own)
 abbrev pub Ends : KeyFile → WhyAsked → List ℕ →
-    (source_before source_now out_before out_now : Side) → Result Bool JudgingHalt → Type 0
+    (source_before source_now out_before out_now : Side) → Result Bool WalkHalt → Type 0
 Ends keys asked given source_before source_now out_before out_now (Ok passes) =
     Finishes keys asked given source_now out_before out_now passes
 Ends keys asked given source_before source_now out_before out_now (Err halt.Write) =
@@ -54,45 +49,17 @@ Ends keys asked given source_before source_now out_before out_now (Err halt.Read
     Rose source_before source_now × (Stops asked given × WasWritten [] out_before out_now)
 Ends keys asked given source_before source_now out_before out_now (Err halt.Memory) =
     Lacks asked given × WasWritten [] out_before out_now
-Ends keys asked given source_before source_now out_before out_now (Err other) = ⊥
 
--- how each end comes by a key file: given lines that are refused end all before the capture is read
--- (own)
-abbrev pub EndsWith : WhyRequest → KeyFile → Result (List GivenIsns) TextFault → List ℕ →
-    (source_before source_now out_before out_now : Side) → Result Bool JudgingHalt → Type 0
-EndsWith request keys (Ok isns) given source_before source_now out_before out_now result =
-    Ends keys (question_of request isns) given source_before source_now out_before out_now result
-EndsWith request keys (Err why) given a c out_before out_now (Err (halt.IsnLine n kind)) =
-    (why ≡ line_fault.Line n kind) × Nothing given out_before out_now
-EndsWith request keys (Err why) given a c out_before out_now (Err halt.TooManyIsns) =
-    (why ≡ line_fault.TooManyLines) × Nothing given out_before out_now
-EndsWith request keys (Err why) given a c out_before out_now (Err halt.Memory) =
-    Nothing given out_before out_now
-EndsWith request keys (Err why) given a c out_before out_now other = ⊥
-
--- how each end comes: a key file that is refused ends all before the capture is read (own)
-abbrev pub EndsBy : WhyRequest → Result KeyFile TableFault → Result (List GivenIsns) TextFault →
-    List ℕ → (source_before source_now out_before out_now : Side) → Result Bool JudgingHalt → Type 0
-EndsBy request (Ok keys) isns given source_before source_now out_before out_now result =
-    EndsWith request keys isns given source_before source_now out_before out_now result
-EndsBy request (Err why) isns given a c out_before out_now (Err (halt.Keys fault)) =
-    (fault ≡ why) × Nothing given out_before out_now
-EndsBy request (Err why) isns given a c out_before out_now (Err halt.Memory) =
-    Nothing given out_before out_now
-EndsBy request (Err why) isns given a c out_before out_now other = ⊥
-
--- the answer on a packet of a capture is written, of which the source gave these bytes, by the key
--- file of this text and the given lines of that one (own)
-pub record Writes (request : WhyRequest) (keys isns given : List ℕ)
-    (source_before source_now out_before out_now : Side) (result : Result Bool JudgingHalt)
+-- the answer on a packet of a capture is written, of which the source gave these bytes (own)
+pub record Writes (keys : KeyFile) (asked : WhyAsked) (given : List ℕ)
+    (source_before source_now out_before out_now : Side) (result : Result Bool WalkHalt)
     : Type 0 where
   pub gave : Gave given source_before source_now
   pub bytes : All IsByte given
-  pub ends : EndsBy request (key_file_in keys) (given_isns_of isns) given source_before source_now
-      out_before out_now result
+  pub ends : Ends keys asked given source_before source_now out_before out_now result
 
 -- an answer is written
-abbrev pub WritesAnswer : Answered → (out_before out_now : Side) → Result Bool JudgingHalt → Type 0
+abbrev pub WritesAnswer : Answered → (out_before out_now : Side) → Result Bool WalkHalt → Type 0
 WritesAnswer answered out_before out_now (Ok passes) =
     (passes ≡ answered.passes) × WasWritten answered.text.items out_before out_now
 WritesAnswer answered out_before out_now (Err halt.Write) =

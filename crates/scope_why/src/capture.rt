@@ -18,8 +18,8 @@ use ao_base::{Source, Steps};
 use book_sessions::GivenIsns;
 use capture_check::Checker;
 use capture_stream::{CaptureHalt, CaptureReader, CaptureStep};
+use capture_walk::WalkHalt;
 use key_table::Tables;
-use scope_sessions::JudgingHalt;
 use std::alloc::{AllocError, Global};
 use std::marker::Brand;
 use std::sync::ledger::{Blank, Ledger};
@@ -48,7 +48,7 @@ fn answer_behind<L: Ledger, I: Source>(
     question: &Question<'_>,
     number: u64,
     input: &mut I,
-) -> Result<Answered, JudgingHalt>
+) -> Result<Answered, WalkHalt>
     requires reader { reader.old ≡ new_reading }
     requires stands { StandsFor checker.old.entries (given_after [] told.old.items) }
     ensures { (bytes : List ℕ) × Reads (key_file_of question.now checker.old.tables)
@@ -61,11 +61,11 @@ fn answer_behind<L: Ledger, I: Source>(
             Ok(CaptureStep::Block) => continue 'parts,
             Ok(CaptureStep::End) => match answer_missing(alloc, number, count) {
                 Ok(answered) => return Ok(answered),
-                Err(_) => return Err(JudgingHalt::Memory),
+                Err(_) => return Err(WalkHalt::Memory),
             },
-            Err(CaptureHalt::Read) => return Err(JudgingHalt::Read),
-            Err(CaptureHalt::TooLong) => return Err(JudgingHalt::TooLong),
-            Err(CaptureHalt::Broken(fault)) => return Err(JudgingHalt::Broken(fault)),
+            Err(CaptureHalt::Read) => return Err(WalkHalt::Read),
+            Err(CaptureHalt::TooLong) => return Err(WalkHalt::TooLong),
+            Err(CaptureHalt::Broken(fault)) => return Err(WalkHalt::Broken(fault)),
         }
         let stored = stored_shown(reader);
         if reader.number() == number {
@@ -79,12 +79,12 @@ fn answer_behind<L: Ledger, I: Source>(
                 stored,
             ) {
                 Ok(answered) => return Ok(answered),
-                Err(_) => return Err(JudgingHalt::Memory),
+                Err(_) => return Err(WalkHalt::Memory),
             }
         }
         match hear_packet(checker, told, alloc, steps, stored) {
             Ok(()) => {}
-            Err(_) => return Err(JudgingHalt::Memory),
+            Err(_) => return Err(WalkHalt::Memory),
         }
         count += 1;
     }
@@ -100,7 +100,7 @@ fn answer_counted<L: Ledger, I: Source>(
     number: u64,
     input: &mut I,
     blank: Blank,
-) -> Result<Answered, JudgingHalt>
+) -> Result<Answered, WalkHalt>
     requires name { blank.name ≡ L.name }
     requires parts { blank.parts ≡ L.parts }
     requires part { 0 < blank.parts }
@@ -110,15 +110,15 @@ fn answer_counted<L: Ledger, I: Source>(
     let mut steps = Steps::<L>::new(blank);
     let mut reader = match CaptureReader::new(alloc) {
         Ok(reader) => reader,
-        Err(_) => return Err(JudgingHalt::Memory),
+        Err(_) => return Err(WalkHalt::Memory),
     };
     let mut checker = match Checker::behind(alloc, tables, given) {
         Ok(checker) => checker,
-        Err(_) => return Err(JudgingHalt::Memory),
+        Err(_) => return Err(WalkHalt::Memory),
     };
     let mut told = match told_first(alloc, given) {
         Ok(told) => told,
-        Err(_) => return Err(JudgingHalt::Memory),
+        Err(_) => return Err(WalkHalt::Memory),
     };
     answer_behind(
         &mut reader,
@@ -135,7 +135,7 @@ fn answer_counted<L: Ledger, I: Source>(
 /// The answer on the first packet of this number of a capture, which is read as far as that packet: by the
 /// tables, as behind handshakes with the given initial sequence numbers. Broken where the capture has this fault
 /// and no packet in front of it has the number; Read only where the source's count of faults rose; TooLong only
-/// where it gave more than 2^63 bytes; and Memory for want of memory.
+/// where it gave more than 2^63 bytes; and Memory where memory ran out.
 pub(crate) fn answer_capture<I: Source>(
     alloc: Global,
     tables: Tables,
@@ -143,7 +143,7 @@ pub(crate) fn answer_capture<I: Source>(
     question: &Question<'_>,
     number: u64,
     input: &mut I,
-) -> Result<Answered, JudgingHalt>
+) -> Result<Answered, WalkHalt>
     ensures { (bytes : List ℕ) × Reads (key_file_of question.now tables) (asked_of question.now given.now number) bytes
         (I.side input.old) (I.side input.new) result }
 {

@@ -1,25 +1,11 @@
-use Rattle.std.proofs.Common.{[]}
 use Rattle.toml.specs.View.{table_view}
-use Rattle.scope_sessions.specs.Halts.{keys_at}
+use Rattle.scope_sessions.specs.Reading.{series_of}
 use Rattle.scope_sessions.specs.Writing.{at_end, retire_report}
-use Rattle.scope_sessions.proofs.Ends.{file_read, writes_counted, writes_refused, writes_unread}
+use Rattle.scope_sessions.proofs.Ends.{writes_counted}
 use Rattle.scope_sessions.proofs.retire.write_retiring.Goals as goal
 
-pub returns-in-Err : goal.returns-in-Err
-returns-in-Err g c = ([], rw c.halt_of.ensures (writes_refused (retire_report c.args.word.now) at_end c.args.laps c.args.keys.now c.args.isns.now c.in-Err.fault _ _ c.in-Err.ensures.value))
-
-pub returns-in-Err-read_document : goal.returns-in-Err-read_document
-returns-in-Err-read_document g c = ([], rw c.halt_of-in-Err-read_document.ensures (writes_refused (retire_report c.args.word.now) at_end c.args.laps c.args.keys.now c.args.isns.now c.in-Err-read_document.fault _ _ c.in-Err-read_document.ensures.refused))
-
-pub returns-in-Err-read_given : goal.returns-in-Err-read_given
-returns-in-Err-read_given g c =
-    let document = table_view c.in-Ok-read_document.document in
-    let is = file_read c.args.keys.now c.in-Ok.tables document c.in-Ok.ensures.value c.in-Ok-read_document.ensures.document in
-    ([], rw c.halt_of_lines.ensures (writes_unread (retire_report c.args.word.now) at_end c.args.laps c.args.keys.now c.args.isns.now (keys_at document c.in-Ok.tables) c.in-Err-read_given.fault _ _ is c.in-Err-read_given.ensures))
-
-pub returns-in-Ok-count_capture : goal.returns-in-Ok-count_capture
-returns-in-Ok-count_capture g c =
-    let document = table_view c.in-Ok-read_document.document in
-    let is = file_read c.args.keys.now c.in-Ok.tables document c.in-Ok.ensures.value c.in-Ok-read_document.ensures.document in
-    let counts = rw c.as_slice.ensures.value at c.in-Ok-count_capture.ensures in
-    (counts.0, writes_counted (retire_report c.args.word.now) at_end c.args.laps c.args.keys.now c.args.isns.now (keys_at document c.in-Ok.tables) c.in-Ok-read_given.given.items is c.in-Ok-read_given.ensures counts.0 _ _ _ _ c.in-Ok-count_capture.counted _ c.write_counted.result counts.1 c.write_counted.ensures)
+pub returns-in-Ok : goal.returns-in-Ok
+returns-in-Ok g c =
+    let s = series_of (table_view c.args.file.document) c.args.file.tables c.args.laps c.args.isns.now at_end in
+    let counts = c.in-Ok.ensures in
+    (counts.0, writes_counted (retire_report c.args.word.now) s counts.0 _ _ _ _ _ c.in-Ok.counted c.write_counted.result counts.1 c.write_counted.ensures)
