@@ -30,7 +30,7 @@ OUTSIDE = {"ao_base/specs/Outside.antt", "ao_run/specs/Runs.antt", "ao_run/specs
            "law_link/specs/Headline.antt", "law_link/specs/Laws.antt", "law_link/specs/Sessions.antt",
            "law_seen/specs/Seen.antt", "law_seen/specs/Summaries.antt", "law_seen/specs/Apart.antt", "law_seen/specs/Carried.antt",
            "law_progress/specs/Progress.antt", "law_node/specs/Alone.antt",
-           "cmd_bgp/specs/Tellings.antt", "law_pcap/specs/LineForms.antt", "cmd_check/specs/CheckedLines.antt",
+           "cmd_link/specs/Tellings.antt", "law_pcap/specs/LineForms.antt", "cmd_check/specs/CheckedLines.antt",
            "cmd_check/specs/CheckedPackets.antt", "cmd_check/src/halt.rt", "pcap_file/specs/Reads.antt"}
 ENTRY, FUNCTION = "ao_run/src/top.rt", "run"
 COLUMNS = 100

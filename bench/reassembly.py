@@ -14,7 +14,7 @@ import subprocess
 
 import measure
 
-NEEDED = ["book_base", "ao_base", "book_segments", "slot_list", "wrap_seq", "stream_buffers"]
+NEEDED = ["book_base", "ao_base", "book_segments", "tcp_segment", "stream_buffers"]
 PAIRS = 50_000
 MOST_SECONDS = 0.2
 PROGRAM = r"""//! Prints the sum of the bytes that a reassembly gave back, and of their number.
@@ -68,7 +68,7 @@ def make(folder):
     top = measure.BENCH.parent
     shutil.copy(top / "HANDLES", folder)
     needed = [line for line in (top / "crates.txt").read_text(encoding="ascii").splitlines() if line.partition(":")[0] in NEEDED]
-    needed.append("reassembly_times: stream_buffers slot_list ao_base")
+    needed.append("reassembly_times: stream_buffers ao_base")
     (folder / "crates.txt").write_text("".join(line + "\n" for line in needed), encoding="ascii")
     for crate in NEEDED:
         shutil.copytree(top / "crates" / crate, folder / "crates" / crate, symlinks=True)

@@ -17,7 +17,7 @@ use Rattle.ao_kdf.specs.declared.way.Way.{Way}
 use Rattle.ao_kdf.specs.declared.way.Way.TheVariants.{Inbound, Outbound}
 use Rattle.book_keys.specs.Lookups.{number_of}
 use Rattle.book_base.specs.declared.address.Pair.{Pair}
-use Rattle.tcp_options.specs.Views.{view_ao}
+use Rattle.tcp_segment.specs.Views.{view_ao}
 use Rattle.ao_check.specs.declared.screen.Screened.{Screened}
 use Rattle.book_endpoint.specs.declared.passed.Passed.{Passed}
 use Rattle.book_endpoint.specs.declared.refusal.Refusal.TheVariants.{BadMac}

@@ -14,7 +14,7 @@ use Rattle.book_keys.specs.Lookups.{number_of}
 use Rattle.book_endpoint.specs.declared.passed.Passed.{Passed}
 use Rattle.book_endpoint.specs.declared.refusal.Refusal.{Refusal}
 use Rattle.book_endpoint.specs.declared.refusal.Refusal.TheVariants as refusals
-use Rattle.tcp_options.specs.Views.{view_ao}
+use Rattle.tcp_segment.specs.Views.{view_ao}
 use Rattle.ao_check.specs.declared.passing.Passing.{Passing}
 use Rattle.ao_check.specs.declared.screen.Screened.{Screened}
 

@@ -15,12 +15,13 @@ ghost use Rattle.tcp_segment.specs.Drafts.{Drafted, InOneBuffer};
 ghost use Rattle.ao_mac.specs.Sealed.{IsSealed};
 ghost use Rattle.book_macs.specs.Contexts.{bytes_of};
 ghost use Rattle.ao_kdf.specs.declared.way.Way.TheVariants.{Inbound, Outbound};
-ghost use Rattle.key_coordination.specs.Sendings.{told};
+ghost use Rattle.ao_check.specs.Sendings.{told};
 ghost use Rattle.ao_check.specs.Bonds.{fresh, Fits, Counted};
-ghost use Rattle.tcp_options.specs.Views.{view_ao};
+ghost use Rattle.tcp_segment.specs.Views.{view_ao};
 ghost use Rattle.ao_check.specs.Verdicts.{IsExpected, Tells, is_judged, judging, verdict_of};
 ghost use Rattle.ao_check.specs.Signings.{IsToSign, has_field};
 
+use crate::choice::{Choice, Sending};
 use crate::context::outgoing;
 use crate::key::{has_right_mac, seal_by};
 use crate::passing::Passing;
@@ -29,13 +30,11 @@ use ao_base::Steps;
 use ao_kdf::{Context, KeyCache};
 use book_base::Pair;
 use book_endpoint::{Passed, Refusal};
-use key_coordination::{Choice, Sending};
 use key_table::Table;
 use std::alloc::{AllocError, Global};
 use std::marker::Model;
 use std::sync::ledger::Ledger;
-use tcp_segment::{Datagram, DatagramMut};
-use wrap_seq::Counter;
+use tcp_segment::{Counter, Datagram, DatagramMut};
 
 /// What one end knows of a connection: its sockets, both initial sequence numbers, the current row,
 /// and the traffic keys that it derived.

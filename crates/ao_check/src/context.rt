@@ -8,8 +8,7 @@ ghost use Rattle.book_macs.specs.Contexts.{bytes_of};
 ghost use Rattle.ao_check.specs.Contexts.{HasSockets, IsBelow, IsPlanned};
 
 use ao_kdf::Context;
-use tcp_segment::{Datagram, Flag};
-use wrap_seq::extend;
+use tcp_segment::{Datagram, Flag, extend};
 
 /// The context with these initial sequence numbers.
 fn between(datagram: &Datagram<'_>, source_isn: u32, dest_isn: u32) -> Context

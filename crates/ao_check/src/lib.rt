@@ -7,6 +7,7 @@
 #![tactic(auto)]
 
 mod association;
+mod choice;
 mod compare;
 mod context;
 mod key;
@@ -18,6 +19,7 @@ mod under;
 
 pub use association::Association;
 pub use book_endpoint::{Passed, Refusal};
+pub use choice::{Choice, Sending};
 pub use laws::{fits_once_added, fits_once_withdrawn, signed_passes};
 pub use passing::Passing;
 pub use syn::check_syn;

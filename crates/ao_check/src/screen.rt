@@ -6,7 +6,7 @@ ghost use Rattle.book_segments.specs.Options.{One, find_ao};
 ghost use Rattle.book_macs.specs.Keys.{key_length, mac};
 ghost use Rattle.book_macs.specs.MacInput.{mac_input};
 ghost use Rattle.book_endpoint.specs.Verdicts.{judge};
-ghost use Rattle.tcp_options.specs.Views.{view_ao, view_found};
+ghost use Rattle.tcp_segment.specs.Views.{view_ao, view_found};
 ghost use Rattle.ao_check.specs.Contexts.{IsBelow};
 ghost use Rattle.ao_check.specs.Verdicts.{Screens, Tells};
 
@@ -17,9 +17,7 @@ use ao_mac::mac_over;
 use book_base::Pair;
 use book_endpoint::Refusal;
 use key_table::{Accept, Row, Table};
-use tcp_options::{AoFound, AoOption};
-use tcp_segment::Datagram;
-use wrap_seq::Counter;
+use tcp_segment::{AoFound, AoOption, Counter, Datagram};
 
 /// What was found of a segment whose MAC is still to be judged.
 #[derive(Drop)]

@@ -5,7 +5,7 @@ ghost use Rattle.book_segments.specs.Segments.{has, SYN};
 ghost use Rattle.book_macs.specs.Contexts.{bytes_of};
 ghost use Rattle.book_macs.specs.Keys.{key_length, traffic_key};
 ghost use Rattle.book_endpoint.specs.Verdicts.{judge};
-ghost use Rattle.tcp_options.specs.Views.{view_ao};
+ghost use Rattle.tcp_segment.specs.Views.{view_ao};
 ghost use Rattle.ao_check.specs.Verdicts.{Tells, verdict_of};
 
 use crate::passing::Passing;

@@ -9,7 +9,7 @@ ghost use Rattle.book_endpoint.specs.Verdicts.{judge};
 ghost use Rattle.ao_kdf.specs.Cache.{kept, IsRight};
 ghost use Rattle.ao_kdf.specs.declared.way.Way.TheVariants.{Inbound, Outbound};
 ghost use Rattle.ao_mac.specs.Macs.{IsMacOf};
-ghost use Rattle.tcp_options.specs.Views.{view_ao};
+ghost use Rattle.tcp_segment.specs.Views.{view_ao};
 ghost use Rattle.ao_check.specs.Bonds.{Fits, Counted, keys_after, steps_of};
 ghost use Rattle.ao_check.specs.Verdicts.{IsExpected, Tells, is_judged, judging, verdict_of};
 
@@ -23,8 +23,7 @@ use book_base::Pair;
 use book_endpoint::{Passed, Refusal};
 use key_table::{Row, Table};
 use std::sync::ledger::Ledger;
-use tcp_options::AoOption;
-use tcp_segment::Datagram;
+use tcp_segment::{AoOption, Datagram};
 
 /// A segment from the peer that passes the check, with the TCP-AO option that was found in it, or
 /// else the first refusal that holds (RFC 5925, section 7.5), by initial sequence numbers and kept

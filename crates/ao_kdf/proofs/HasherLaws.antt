@@ -2,9 +2,9 @@
 use Rattle.std.proofs.Common.{◌≡◌, ℕ, List, ◌++◌, subst}
 use Rattle.book_base.specs.declared.algorithm.Algorithm.{Algorithm}
 use Rattle.book_base.specs.declared.algorithm.Algorithm.TheVariants.{HmacSha1, AesCmac, HmacSha256}
-use Rattle.hmac_sha1.specs.Hasher as hmac_hasher
-use Rattle.aes_cmac.specs.declared.hasher.Cmac as cmac_hasher
-use Rattle.aes_cmac.specs.Hasher as cmac_fed
+use Rattle.ao_kdf.specs.Hasher as hmac_hasher
+use Rattle.ao_kdf.specs.declared.cmac_hasher.Cmac as cmac_hasher
+use Rattle.ao_kdf.specs.CmacHasher as cmac_fed
 use Rattle.ao_kdf.specs.declared.hasher.Hasher.{Hasher}
 use Rattle.ao_kdf.specs.declared.hasher.Hasher.TheVariants.{Sha1, Cmac, Sha256}
 use Rattle.ao_kdf.specs.Hashers.{StandsFor}

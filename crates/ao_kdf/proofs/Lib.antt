@@ -1,3 +1,9 @@
 pub mod CacheLaws
 pub mod HasherLaws
 pub mod InputLaws
+pub mod Filled
+pub mod TableTest
+pub mod Columns
+pub mod Rounds
+pub mod Doubling
+pub mod Chains

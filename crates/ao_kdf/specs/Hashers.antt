@@ -2,8 +2,8 @@
 use Rattle.std.specs.Prelude.{ℕ, List}
 use Rattle.book_base.specs.declared.algorithm.Algorithm.{Algorithm}
 use Rattle.book_base.specs.declared.algorithm.Algorithm.TheVariants.{HmacSha1, AesCmac, HmacSha256}
-use Rattle.hmac_sha1.specs.Hasher.{StandsForSha1, StandsForSha256}
-use Rattle.aes_cmac.specs.Hasher as cmac
+use Rattle.ao_kdf.specs.Hasher.{StandsForSha1, StandsForSha256}
+use Rattle.ao_kdf.specs.CmacHasher as cmac
 use Rattle.ao_kdf.specs.declared.hasher.Hasher.{Hasher}
 use Rattle.ao_kdf.specs.declared.hasher.Hasher.TheVariants.{Sha1, Cmac, Sha256}
 

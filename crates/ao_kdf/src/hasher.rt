@@ -4,9 +4,9 @@ ghost use Rattle.book_base.specs.declared.algorithm.Algorithm.{Algorithm};
 ghost use Rattle.book_base.specs.declared.algorithm.Algorithm.TheVariants.{AesCmac};
 ghost use Rattle.ao_kdf.specs.Hashers.{StandsFor};
 
-use aes_cmac::Cmac;
+use crate::cmac_hasher::Cmac;
+use crate::hmac::{HmacSha1, HmacSha256};
 use book_base::Algorithm;
-use hmac_sha1::{HmacSha1, HmacSha256};
 
 /// HMAC-SHA-1, AES-CMAC (RFC 5926, section 3.2) or HMAC-SHA-256 of the bytes fed to it under a
 /// traffic key.

@@ -5,14 +5,27 @@
 //! memory but a cache, when it is made.
 #![tactic(auto)]
 
+mod block;
 mod cache;
+mod cipher;
+mod cmac_hasher;
+mod hash;
 mod hasher;
+mod hmac;
 mod input;
 mod key;
+mod subkeys;
+mod table;
 mod way;
 
 pub use book_macs::Context;
 pub use cache::KeyCache;
+pub use cipher::Aes128;
+pub use cmac_hasher::{Cmac, prf};
 pub use hasher::Hasher;
+pub use hmac::{Hmac, HmacSha1, HmacSha256};
 pub use key::{TrafficKey, traffic_key};
 pub use way::Way;
+
+#[cfg(test)]
+mod tests;

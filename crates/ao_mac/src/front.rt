@@ -4,13 +4,12 @@ ghost use Rattle.book_segments.specs.Bytes.{put2, put4};
 ghost use Rattle.book_segments.specs.Options.{One, find_ao};
 ghost use Rattle.book_segments.specs.Segments.{pseudo, header, tcp_length};
 ghost use Rattle.book_segments.specs.Spelling.{Fits};
-ghost use Rattle.tcp_options.specs.Views.{view_ao};
+ghost use Rattle.tcp_segment.specs.Views.{view_ao};
 ghost use Rattle.book_macs.specs.MacInput.{covered};
 
 use book_base::Address;
 use std::marker::Model;
-use tcp_options::{AO_HEAD, AO_KIND, AoOption};
-use tcp_segment::{Datagram, TCP_PROTOCOL};
+use tcp_segment::{AO_HEAD, AO_KIND, AoOption, Datagram, TCP_PROTOCOL};
 
 /// The most bytes before the payload: those of the extension, the pseudo-header of IPv6, the header
 /// and the longest options.

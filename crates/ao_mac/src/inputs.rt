@@ -3,14 +3,13 @@ ghost use Rattle.std.specs.Prelude.{◌≡◌, ◌↔◌, ◌+◌, ◌/◌, ◌^
 ghost use Rattle.book_segments.specs.Options.{One, find_ao};
 ghost use Rattle.book_segments.specs.Segments.{pseudo, header};
 ghost use Rattle.book_macs.specs.MacInput.{covered, mac_input};
-ghost use Rattle.tcp_options.specs.Views.{view_ao};
+ghost use Rattle.tcp_segment.specs.Views.{view_ao};
 ghost use Rattle.ao_mac.specs.Macs.{IsSameInput};
 
 use crate::front::tcp_length_of;
 use book_base::Address;
 use std::marker::Model;
-use tcp_options::{AO_HEAD, AO_KIND, AoOption};
-use tcp_segment::Datagram;
+use tcp_segment::{AO_HEAD, AO_KIND, AoOption, Datagram};
 
 /// What the MAC of a segment is computed over (RFC 5925, section 5.1).
 #[derive(Clone, Copy)]
@@ -35,7 +34,7 @@ struct Covered<'a> {
 impl<'a> Model for Covered<'a> {
     ghost use Rattle.std.specs.Prelude.{◌+◌, ◌≤◌, ℕ, List, length};
     ghost use Rattle.book_macs.specs.MacInput.{covered};
-    ghost use Rattle.tcp_options.specs.Views.{view_ao};
+    ghost use Rattle.tcp_segment.specs.Views.{view_ao};
 
     ghost Value = { List ℕ };
 

@@ -3,7 +3,7 @@ ghost use Rattle.std.specs.Prelude.{◌≡◌, length};
 ghost use Rattle.book_base.specs.Algorithms.{mac_length_of};
 ghost use Rattle.book_base.specs.declared.algorithm.Algorithm.TheVariants.{AesCmac};
 ghost use Rattle.book_segments.specs.Options.{One, find_ao};
-ghost use Rattle.tcp_options.specs.Views.{view_ao};
+ghost use Rattle.tcp_segment.specs.Views.{view_ao};
 ghost use Rattle.ao_mac.specs.Macs.{HasAo, IsMacOf};
 
 use crate::front::Front;
@@ -11,8 +11,7 @@ use crate::hasher::finish;
 use crate::mac_bytes::MacBytes;
 use ao_kdf::TrafficKey;
 use book_base::Algorithm;
-use tcp_options::{AoFound, AoOption};
-use tcp_segment::Datagram;
+use tcp_segment::{AoFound, AoOption, Datagram};
 
 /// The MAC of a segment whose TCP-AO option was found, under a traffic key (RFC 5925, section 5.1;
 /// RFC 5926, section 3.2).

@@ -10,15 +10,15 @@ use Rattle.book_answer.specs.declared.command.Command.TheVariants as command
 use Rattle.book_answer.specs.Answers.{Answer, answer_by, answer_of, answer_over, answer_with_keys, answer_within, bgp_over, done, if_read, judged, keys_too_long, linked, linked_by_shared, linted, long_text, most_input, node_over, refusal, timed_over, too_long, verified}
 use Rattle.book_cmd_check.specs.Captures.{Stored, has_refusal}
 use Rattle.book_answer.specs.Commands.{reads_keys, reads_input}
-use Rattle.book_cmd_keys.specs.KeyTexts.{table_fault_line}
+use Rattle.book_cmd_link.specs.KeyTexts.{table_fault_line}
 use Rattle.book_cmd_link.specs.declared.script.KeysFrom.TheVariants as keys_from
 use Rattle.book_cmd_link.specs.LinkFiles.{script_of}
-use Rattle.book_cmd_keys.specs.LintTexts.{lint_pair_of}
+use Rattle.book_cmd_link.specs.LintTexts.{lint_pair_of}
 use Rattle.book_cmd_node.specs.NodeRuns.{node_script_of}
-use Rattle.book_cmd_show.specs.Show.{show_of}
+use Rattle.book_cmd_check.specs.Show.{show_of}
 use Rattle.book_cmd_check.specs.StoredLines.{stored_input}
-use Rattle.book_cmd_timed.specs.TimedRuns.{timed_script_of}
-use Rattle.book_cmd_show.specs.Verified.{vectors_of}
+use Rattle.book_cmd_link.specs.TimedRuns.{timed_script_of}
+use Rattle.book_cmd_check.specs.Verified.{vectors_of}
 use Rattle.book_lines.specs.Said.{said_in}
 use Rattle.ao_run.specs.Gathered.{answer_in}
 use Rattle.ao_run.specs.Obeys.{asks_keys, asks_input, writes_along}

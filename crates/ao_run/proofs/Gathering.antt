@@ -13,7 +13,7 @@ use Rattle.book_keys.specs.Rows.{Table}
 use Rattle.book_answer.specs.declared.command.Command.{Command}
 use Rattle.book_answer.specs.Answers.{Answer, answer_of, answer_over, most_input, refusal, too_many_events}
 use Rattle.book_answer.specs.Commands.{reads_keys, reads_input}
-use Rattle.book_cmd_keys.specs.KeyTexts.{table_fault_line}
+use Rattle.book_cmd_link.specs.KeyTexts.{table_fault_line}
 use Rattle.ao_run.specs.declared.stop.Output.{Output}
 use Rattle.ao_run.specs.declared.stop.Stop.{Stop}
 use Rattle.ao_run.specs.declared.stop.Stop.TheVariants.{Usage, KeysTooLong, Keys, TooLong, Input, TooManyEvents, Read, Write, Memory}

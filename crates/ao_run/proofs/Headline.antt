@@ -18,17 +18,17 @@ use Rattle.book_answer.specs.declared.command.Command.{Command}
 use Rattle.book_answer.specs.declared.command.Command.TheVariants as command
 use Rattle.book_cmd_node.specs.declared.node.NodeScript.{NodeScript}
 use Rattle.book_cmd_link.specs.declared.script.Script.{Script}
-use Rattle.book_cmd_timed.specs.declared.timed.TimedScript.{TimedScript}
+use Rattle.book_cmd_link.specs.declared.timed.TimedScript.{TimedScript}
 use Rattle.book_answer.specs.Answers.{Answer, answer_by, answer_of, answer_over, answer_with_keys, answer_within, bgp_over, if_read, judged, keys_too_long, linked, linked_by_shared, linted, most_input, node_over, pcap_fault_line, refusal, reported, stormed, timed_over, too_long, too_many_events, long_text}
-use Rattle.book_cmd_timed.specs.TimedRuns.{most_events}
-use Rattle.book_cmd_bgp.specs.BgpRuns.{bgp_faults}
+use Rattle.book_cmd_link.specs.TimedRuns.{most_events}
+use Rattle.book_cmd_link.specs.BgpRuns.{bgp_faults}
 use Rattle.book_cmd_check.specs.Captures.{Stored}
 use Rattle.book_answer.specs.Commands.{command_of, reads_input, reads_keys}
 use Rattle.book_cmd_link.specs.declared.script.KeysFrom.TheVariants as keys_from
 use Rattle.book_cmd_link.specs.LinkFiles.{script_of}
 use Rattle.book_cmd_node.specs.NodeRuns.{node_script_of}
-use Rattle.book_cmd_timed.specs.TimedRuns.{expand, timed_script_of}
-use Rattle.cmd_bgp.proofs.TellLaws.{speaks_in_order, tells_messages}
+use Rattle.book_cmd_link.specs.TimedRuns.{expand, timed_script_of}
+use Rattle.cmd_link.proofs.TellLaws.{speaks_in_order, tells_messages}
 use Rattle.law_headline.specs.GetsThrough.{GetsThrough}
 use Rattle.law_headline.specs.Lawful.{Lawful}
 use Rattle.law_headline.proofs.FilesThrough.{keyed_through, shared_through, timed_through}
@@ -44,7 +44,7 @@ use Rattle.book_base.specs.Hexadecimal.{IsByte}
 use Rattle.law_pcap.specs.LineForms.{line_form}
 use Rattle.law_pcap.proofs.Judged.{answers_alike}
 use Rattle.law_pcap.proofs.Records.{line_form_shows}
-use Rattle.book_cmd_keys.specs.LintTexts.{lint_pair_of}
+use Rattle.book_cmd_link.specs.LintTexts.{lint_pair_of}
 use Rattle.book_keys.specs.declared.plan.Plan.{Plan}
 use Rattle.book_lines.specs.Said.{said_in}
 use Rattle.ao_run.proofs.Planned.{ApartAndCarried, all_aligned, all_carried, apart_of}

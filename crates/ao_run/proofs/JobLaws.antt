@@ -12,7 +12,7 @@ use Rattle.book_keys.specs.Rows.{Table}
 use Rattle.book_answer.specs.declared.command.Command.{Command}
 use Rattle.book_answer.specs.Answers.{most_input, refusal}
 use Rattle.book_answer.specs.Commands.{reads_input, reads_keys}
-use Rattle.book_cmd_keys.specs.KeyTexts.{table_fault_line}
+use Rattle.book_cmd_link.specs.KeyTexts.{table_fault_line}
 use Rattle.ao_run.specs.declared.job.Job.{Job}
 use Rattle.ao_run.specs.declared.job.Whole.{Whole}
 use Rattle.ao_run.specs.declared.job.Whole.TheVariants as whole

@@ -20,22 +20,22 @@ use Rattle.book_answer.specs.declared.command.Command.TheVariants.{Lint, Storm}
 use Rattle.book_cmd_node.specs.declared.node.NodeEvent.{NodeEvent}
 use Rattle.book_cmd_node.specs.declared.node.NodeScript.{NodeScript}
 use Rattle.book_cmd_link.specs.declared.script.Script.{Script}
-use Rattle.book_cmd_timed.specs.declared.timed.TimedEvent.{TimedEvent}
-use Rattle.book_cmd_timed.specs.declared.timed.TimedScript.{TimedScript}
+use Rattle.book_cmd_link.specs.declared.timed.TimedEvent.{TimedEvent}
+use Rattle.book_cmd_link.specs.declared.timed.TimedScript.{TimedScript}
 use Rattle.book_answer.specs.Answers.{Answer, answer}
-use Rattle.book_cmd_timed.specs.TimedRuns.{most_events}
+use Rattle.book_cmd_link.specs.TimedRuns.{most_events}
 use Rattle.book_cmd_link.specs.declared.script.KeysFrom.TheVariants as keys_from
 use Rattle.book_cmd_link.specs.LinkFiles.{shared_by}
-use Rattle.book_cmd_bgp.specs.BgpRuns.{bgp_faults, bgp_text}
-use Rattle.book_cmd_keys.specs.LintTexts.{lint_pair_of}
+use Rattle.book_cmd_link.specs.BgpRuns.{bgp_faults, bgp_text}
+use Rattle.book_cmd_link.specs.LintTexts.{lint_pair_of}
 use Rattle.book_lines.specs.Said.{Said, said_in}
 use Rattle.book_answer.specs.Commands.{command_of}
 use Rattle.book_cmd_link.specs.LinkFiles.{script_of}
 use Rattle.book_cmd_node.specs.NodeRuns.{node_script_of, node_text}
 use Rattle.law_node.specs.Alone.{Alone}
-use Rattle.book_cmd_timed.specs.TimedRuns.{expand, timed_script_of}
+use Rattle.book_cmd_link.specs.TimedRuns.{expand, timed_script_of}
 use Rattle.book_pcap.specs.Packets.{most_capture, packets_of}
-use Rattle.cmd_bgp.specs.Tellings.{SpeaksInOrder, TellsMessages}
+use Rattle.cmd_link.specs.Tellings.{SpeaksInOrder, TellsMessages}
 use Rattle.law_headline.specs.GetsThrough.{GetsThrough}
 use Rattle.law_seen.specs.Carried.{Carries, IsAligned, KeepsTables}
 use Rattle.law_seen.specs.Apart.{EachHasOrigin, EachResetIsAnAbort, SessionBySession}

@@ -8,7 +8,7 @@ ghost use Rattle.ao_run.specs.Gathered.{is_ready};
 use ao_base::read_decimal;
 use book_answer::Command;
 use book_base::Words;
-use book_cmd_keys::Plan;
+use book_cmd_link::Plan;
 use key_table::{LATEST, read_time};
 
 /// The most events that a storm draws.

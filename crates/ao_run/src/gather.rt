@@ -10,9 +10,8 @@ use crate::stop::{Output, Stop};
 use crate::told::told;
 use ao_base::{ReadProblem, Source, read_all};
 use book_base::Bytes;
-use cmd_keys::{answer_keys, answer_lint};
 use cmd_link::{answer_link, answer_link_keys, answer_storm};
-use cmd_show::{answer_show, answer_vectors};
+use cmd_show::{answer_keys, answer_lint, answer_show, answer_vectors};
 use std::alloc::Global;
 
 /// The most bytes of an input that is read whole.
@@ -46,8 +45,8 @@ fn answer(alloc: Global, whole: Whole, input: &[u8]) -> Result<Output, Stop>
         Whole::Keys(tables, time) => answer_keys(alloc, &tables, time),
         Whole::Lint(tables, plan) => answer_lint(alloc, &tables, plan, input),
         Whole::Storm(seed, count) => answer_storm(alloc, seed, count),
-        Whole::Bgp(tables) => cmd_bgp::answer(alloc, tables, input),
-        Whole::Timed(tables) => cmd_timed::answer(alloc, tables, input),
+        Whole::Bgp(tables) => cmd_link::answer_bgp(alloc, tables, input),
+        Whole::Timed(tables) => cmd_link::answer_timed(alloc, tables, input),
         Whole::Node(tables) => cmd_node::answer(alloc, &tables, input),
     };
     told(alloc, answer)

@@ -8,7 +8,7 @@ use crate::key_fault::stop_of;
 use crate::stop::Stop;
 use ao_base::{ReadProblem, Source, read_all};
 use book_answer::Command;
-use book_cmd_keys::Plan;
+use book_cmd_link::Plan;
 use cmd_check::Form;
 use key_table::{MOST_KEYS, Tables, read_tables};
 use std::alloc::Global;

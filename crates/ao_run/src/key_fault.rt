@@ -1,12 +1,12 @@
 //! The text of a key file's fault.
 ghost use Rattle.std.specs.Prelude.{◌≡◌, IfOk};
-ghost use Rattle.book_cmd_keys.specs.KeyTexts.{table_fault_line};
+ghost use Rattle.book_cmd_link.specs.KeyTexts.{table_fault_line};
 ghost use Rattle.book_answer.specs.Answers.{refusal};
 ghost use Rattle.ao_run.specs.Stops.{Stopped};
 
 use crate::stop::Stop;
 use book_base::Bytes;
-use key_faults::push_key_fault;
+use command_report::push_key_fault;
 use key_table::TableFault;
 use std::alloc::{AllocError, Global};
 

@@ -7,9 +7,9 @@ use Rattle.book_base.specs.Algorithms.{mac_length_of}
 use Rattle.book_macs.proofs.LengthLaws.{twelve_or_sixteen}
 use Rattle.book_keys.specs.Rows.{Row}
 use Rattle.book_keys.specs.Coordination.{Sending, choose}
-use Rattle.key_coordination.specs.declared.choice.Sending.{Sending as Answer}
-use Rattle.key_coordination.specs.Sendings.{told}
-use Rattle.key_coordination.proofs.ChoosingLaws.{choose_in}
+use Rattle.ao_check.specs.declared.choice.Sending.{Sending as Answer}
+use Rattle.ao_check.specs.Sendings.{told}
+use Rattle.ao_check.proofs.ChoosingLaws.{choose_in}
 use Rattle.ao_check.proofs.KeyLaws.{got}
 
 pub none_of : (o : Option Answer) (c : Option Sending) → o ≡ option_map told c → o ≡ None → c ≡ None

@@ -13,7 +13,7 @@ use Rattle.book_shim.specs.Relaying.{with_area, length_in_header, coming, coming
 use Rattle.book_shim.specs.Arriving.{admitted, past_heard, handed_on}
 use Rattle.ao_check.specs.declared.passing.Passing.{Passing}
 use Rattle.ao_check.specs.Verdicts.{Tells}
-use Rattle.tcp_options.specs.Views.{view_ao}
+use Rattle.tcp_segment.specs.Views.{view_ao}
 use Rattle.ao_shim.specs.Arrivals.{row_heard}
 use Rattle.ao_shim.proofs.InLaws.{row_is}
 use Rattle.law_shim.proofs.LongLaws.{rewritten_long, coming_shortens}

@@ -18,7 +18,7 @@ use Rattle.book_shim.specs.Relaying.{fitted, length_in_header}
 use Rattle.book_shim.specs.Leaving.{as_sent, signs, entered, with_ao, input_for, code_for}
 use Rattle.book_shim.specs.Leaving.{send_sealed, kept_for}
 use Rattle.law_shim.specs.Seals.{sealed_with}
-use Rattle.key_coordination.specs.Sendings.{told}
+use Rattle.ao_check.specs.Sendings.{told}
 use Rattle.ao_kdf.specs.declared.way.Way.TheVariants.{Outbound}
 use Rattle.ao_kdf.specs.Cache.{Cache, kept, IsRight}
 use Rattle.ao_shim.specs.declared.plan.Plan.{Plan}

@@ -1,6 +1,6 @@
 //! The bytes of an option area.
 ghost use Rattle.std.specs.Prelude.{◌≡◌, ◌+◌, ◌≤◌, ◌++◌, ◌∷◌, List, ℕ, [], length, take};
-ghost use Rattle.tcp_options.specs.Views.{view_opt};
+ghost use Rattle.tcp_segment.specs.Views.{view_opt};
 ghost use Rattle.book_segments.specs.Bytes.{put2};
 ghost use Rattle.book_shim.specs.Relaying.{spelled, sack, going, is_left_out, coming, with_mss, in_words};
 ghost use Rattle.book_shim.specs.Relaying.{lowered as mss_lowered};
@@ -9,7 +9,7 @@ ghost use Rattle.ao_shim.specs.Puts.{Puts};
 use book_shim::Trim;
 use byteorder::{BigEndian, ByteOrder};
 use std::marker::Model;
-use tcp_options::{AO_KIND, MSS_KIND, Opt};
+use tcp_segment::{AO_KIND, MSS_KIND, Opt};
 
 /// The most bytes of an option area (RFC 9293, section 3.1).
 const MOST: usize = 40;

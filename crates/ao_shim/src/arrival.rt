@@ -7,7 +7,7 @@ ghost use Rattle.book_shim.specs.Relaying as relaying;
 ghost use Rattle.ao_kdf.specs.declared.way.Way.TheVariants.{Inbound};
 ghost use Rattle.ao_check.specs.Bonds.{Counted};
 ghost use Rattle.ao_check.specs.Verdicts.{Tells, judging, verdict_of};
-ghost use Rattle.tcp_options.specs.Views.{view_ao};
+ghost use Rattle.tcp_segment.specs.Views.{view_ao};
 ghost use Rattle.ao_shim.specs.Guards.{Suits};
 ghost use Rattle.ao_shim.specs.Arrivals.{row_heard};
 

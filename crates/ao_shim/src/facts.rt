@@ -6,12 +6,10 @@ ghost use Rattle.book_segments.specs.Segments.{segment_length};
 ghost use Rattle.book_macs.specs.Contexts.{bytes_of, context_of};
 ghost use Rattle.book_endpoint.specs.Verdicts.{segment_number};
 ghost use Rattle.book_shim.specs.Leaving.{signs as option_signs};
-ghost use Rattle.tcp_options.specs.Views.{view_opt};
+ghost use Rattle.tcp_segment.specs.Views.{view_opt};
 
 use ao_kdf::Context;
-use tcp_options::{AO_KIND, Opt, Options};
-use tcp_segment::{Datagram, Flag};
-use wrap_seq::extend;
+use tcp_segment::{AO_KIND, Datagram, Flag, Opt, Options, extend};
 
 /// The kind of TCP MD5 (RFC 2385, section 3.0).
 const MD5_KIND: u8 = 19;

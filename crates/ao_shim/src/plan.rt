@@ -15,13 +15,12 @@ use crate::layout::length_told;
 use crate::numbers::{own_isn, peer_isn};
 use crate::rewrite::fitted;
 use crate::rows::chosen;
+use ao_check::Sending;
 use ao_kdf::Context;
 use book_base::Pair;
 use book_shim::{Kept, Unsent};
-use key_coordination::Sending;
 use key_table::Table;
-use tcp_options::{AO_HEAD, AO_KIND};
-use tcp_segment::Datagram;
+use tcp_segment::{AO_HEAD, AO_KIND, Datagram};
 
 /// The most bytes of an option area (RFC 9293, section 3.1).
 const MOST_OPTIONS: usize = 40;

@@ -6,7 +6,7 @@ ghost use Rattle.book_shim.specs.Relaying.{fitted_from, fitted, coming_area};
 
 use crate::area::Area;
 use book_shim::Trim;
-use tcp_options::Options;
+use tcp_segment::Options;
 
 /// The options as they go out, trimmed so, if they have room in an area.
 fn going(options: &Options<'_>, trim: Trim) -> Option<Area>

@@ -26,9 +26,7 @@ use ao_mac::MacBytes;
 use book_shim::Kept;
 use key_table::Table;
 use std::sync::ledger::Ledger;
-use tcp_options::AoFound;
-use tcp_segment::{Datagram, Flag, read_datagram};
-use wrap_seq::Counter;
+use tcp_segment::{AoFound, Counter, Datagram, Flag, read_datagram};
 
 /// Whether the key of a datagram is used once and isn't kept: the datagram has SYN, or resets a late
 /// connection.

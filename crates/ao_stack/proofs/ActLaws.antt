@@ -10,7 +10,7 @@ use Rattle.book_stack.specs.Alarms.{without_alarm, without_pair}
 use Rattle.book_stack.specs.Calls.{CallAnswer, At, Told, makes_an_end, kept}
 use Rattle.book_stack.specs.Stacks.{StackState}
 use Rattle.book_stack.specs.Turns.{called_at}
-use Rattle.node_ends.specs.Calls.{act_on}
+use Rattle.stack_ends.specs.EndsCalls.{act_on}
 use Rattle.stack_ends.specs.Calls.{Asking, CallsAt, acting}
 use Rattle.stack_ends.specs.Stands as below
 use Rattle.stack_ends.specs.Stands.{Removed, most_of}

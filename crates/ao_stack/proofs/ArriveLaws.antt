@@ -20,8 +20,8 @@ use Rattle.book_stack.specs.Stacks.{StackState, asking_judged, asks, touched, wa
 use Rattle.book_stack.specs.Turns.{called_at, clocked}
 use Rattle.book_stack.specs.Watches.{arrived, end_front, is_heard, moves_on}
 use Rattle.tcp_endpoint.specs.declared.arrival.Arrived.{Arrived}
-use Rattle.node_ends.specs.declared.answer.NodeArrival.{NodeArrival}
-use Rattle.node_ends.specs.declared.answer.NodeArrival.TheVariants as arrivals
+use Rattle.stack_ends.specs.declared.answer.NodeArrival.{NodeArrival}
+use Rattle.stack_ends.specs.declared.answer.NodeArrival.TheVariants as arrivals
 use Rattle.tcp_endpoint.specs.Arrivals.{TellsPassed, passed_of}
 use Rattle.stack_ends.specs.declared.ends.Ends.{Ends}
 use Rattle.stack_ends.specs.Arrivals.{Meets, MeetsPair, MeetsRead}

@@ -13,8 +13,8 @@ use Rattle.book_stack.specs.Calls.{At, makes_an_end, kept}
 use Rattle.book_stack.specs.Stacks.{StackState, empty_stack, touched}
 use Rattle.book_stack.specs.Watches.{end_front, new_connection_watch}
 use Rattle.book_base.specs.Addresses.{IsOneFamily}
-use Rattle.node_ends.specs.declared.answer.NodeRefusal.{NodeRefusal}
-use Rattle.node_ends.specs.declared.answer.NodeRefusal.TheVariants as refusals
+use Rattle.stack_ends.specs.declared.answer.NodeRefusal.{NodeRefusal}
+use Rattle.stack_ends.specs.declared.answer.NodeRefusal.TheVariants as refusals
 use Rattle.stack_ends.specs.declared.ends.Ends.{Ends}
 use Rattle.stack_ends.specs.Stands as ends
 use Rattle.stack_ends.specs.Stands.{most_of, with_new}

@@ -13,7 +13,7 @@ use Rattle.law_node.proofs.Held.{held}
 use Rattle.book_stack.specs.Calls.{CallAnswer, Call, At, Did, Told, asking, at_pair, makes_an_end, begun, call, kept, stepped, unasked}
 use Rattle.book_stack.specs.Stacks.{StackState, forgotten, touched}
 use Rattle.book_stack.specs.Turns.{called_at, clocked}
-use Rattle.node_ends.specs.Calls.{act_on}
+use Rattle.stack_ends.specs.EndsCalls.{act_on}
 use Rattle.stack_ends.specs.Stands.{with_new}
 use Rattle.ao_stack.specs.declared.stack.Stack.{Stack}
 use Rattle.ao_stack.specs.Answers.{Follows}

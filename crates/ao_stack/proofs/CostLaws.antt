@@ -4,10 +4,10 @@ use Rattle.book_base.specs.declared.address.Pair.{Pair}
 use Rattle.book_segments.specs.Segments.{Segment}
 use Rattle.book_keys.specs.Rows.{Row}
 use Rattle.tcp_endpoint.specs.declared.arrival.Arrived.{Arrived}
-use Rattle.node_ends.specs.declared.answer.NodeArrival.{NodeArrival}
-use Rattle.node_ends.specs.declared.answer.NodeArrival.TheVariants as arrivals
-use Rattle.node_ends.specs.Held.{Holding}
-use Rattle.node_ends.specs.Costs as below
+use Rattle.stack_ends.specs.declared.answer.NodeArrival.{NodeArrival}
+use Rattle.stack_ends.specs.declared.answer.NodeArrival.TheVariants as arrivals
+use Rattle.stack_ends.specs.Held.{Holding}
+use Rattle.stack_ends.specs.EndsCosts as below
 use Rattle.stack_ends.specs.declared.send.Says.{Says}
 use Rattle.stack_ends.specs.declared.send.Says.TheVariants as says
 use Rattle.stack_ends.specs.Costs.{CostsSaid}

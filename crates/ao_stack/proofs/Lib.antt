@@ -10,3 +10,9 @@ mod SendLaws
 pub mod StandLaws
 mod TellLaws
 mod TurnLaws
+mod CountersCallLaws
+mod HeldLaws
+mod MapLaws
+mod PassedLaws
+mod CountersStandLaws
+mod CountersTurnLaws

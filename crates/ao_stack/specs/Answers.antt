@@ -14,10 +14,10 @@ use Rattle.book_stack.specs.Calls as book
 use Rattle.book_stack.specs.Calls.{CallAnswer, Call, call}
 use Rattle.book_stack.specs.Stacks.{StackState, handed}
 use Rattle.tcp_endpoint.specs.declared.send.GiveAnswer.{GiveAnswer}
-use Rattle.node_ends.specs.declared.answer.NodeArrival.{NodeArrival}
-use Rattle.node_ends.specs.declared.answer.NodeArrival.TheVariants as arrivals
-use Rattle.node_ends.specs.declared.answer.NodeRefusal.{NodeRefusal}
-use Rattle.node_ends.specs.declared.answer.NodeRefusal.TheVariants as refusals
+use Rattle.stack_ends.specs.declared.answer.NodeArrival.{NodeArrival}
+use Rattle.stack_ends.specs.declared.answer.NodeArrival.TheVariants as arrivals
+use Rattle.stack_ends.specs.declared.answer.NodeRefusal.{NodeRefusal}
+use Rattle.stack_ends.specs.declared.answer.NodeRefusal.TheVariants as refusals
 use Rattle.stack_ends.specs.declared.calls.Taken.{Taken}
 use Rattle.stack_ends.specs.Calls.{given_as}
 use Rattle.ao_stack.specs.declared.stack.Stack.{Stack}

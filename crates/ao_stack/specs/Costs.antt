@@ -6,8 +6,8 @@ use Rattle.book_cmd_node.specs.NodeRuns.{held_end}
 use Rattle.book_stack.specs.Stacks.{StackState, asks}
 use Rattle.tcp_endpoint.specs.declared.arrival.Arrived.{Arrived}
 use Rattle.tcp_endpoint.specs.Arrivals.{IsBeforeCheck, is_computed}
-use Rattle.node_ends.specs.declared.answer.NodeArrival.{NodeArrival}
-use Rattle.node_ends.specs.declared.answer.NodeArrival.TheVariants as arrivals
+use Rattle.stack_ends.specs.declared.answer.NodeArrival.{NodeArrival}
+use Rattle.stack_ends.specs.declared.answer.NodeArrival.TheVariants as arrivals
 use Rattle.ao_stack.specs.declared.input.Heard.{Heard}
 use Rattle.ao_stack.specs.declared.input.Heard.TheVariants as heard
 use Rattle.ao_stack.specs.declared.outgoing.Outgoing.{Outgoing}

@@ -5,3 +5,8 @@ pub mod Passed
 pub mod Stands
 pub mod Timers
 pub mod Turns
+pub mod CountersAnswers
+pub mod Counts
+pub mod CountersPassed
+pub mod CountersStands
+pub mod Tallies

@@ -9,8 +9,8 @@ use Rattle.book_cmd_node.specs.NodeRuns.{held_end}
 use Rattle.book_stack.specs.Stacks.{StackState}
 use Rattle.tcp_endpoint.specs.declared.arrival.Arrived.{Arrived}
 use Rattle.tcp_endpoint.specs.Arrivals.{TellsOption, TellsPassed, passed_of}
-use Rattle.node_ends.specs.declared.answer.NodeArrival.{NodeArrival}
-use Rattle.node_ends.specs.declared.answer.NodeArrival.TheVariants as arrivals
+use Rattle.stack_ends.specs.declared.answer.NodeArrival.{NodeArrival}
+use Rattle.stack_ends.specs.declared.answer.NodeArrival.TheVariants as arrivals
 use Rattle.ao_stack.specs.declared.input.Heard.{Heard}
 use Rattle.ao_stack.specs.declared.input.Heard.TheVariants as heard
 

@@ -11,8 +11,7 @@ ghost use Rattle.ao_stack.specs.Stands.{Stands, TakesBack};
 use crate::stack::Stack;
 use book_base::Pair;
 use key_table::Table;
-use node_ends::NodeRefusal;
-use stack_ends::Ends;
+use stack_ends::{Ends, NodeRefusal};
 use stack_timers::{Alarms, Line, Watches};
 use std::alloc::{AllocError, Global};
 

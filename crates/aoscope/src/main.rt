@@ -7,7 +7,7 @@ mod waiting;
 
 use ao_base::{Failed, WriteSink, write_all};
 use running::{Paths, run_files};
-use scope_words::{CommandLine, Files, Page, Request, Usage, help_page, parse, push_usage};
+use scope_run::{CommandLine, Files, Page, Request, Usage, help_page, parse, push_usage};
 use std::process::ExitCode;
 use std::{env, io, str};
 

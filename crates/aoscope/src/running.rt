@@ -3,8 +3,7 @@ use crate::opening::Opening;
 use crate::waiting::tell_waiting;
 use ao_base::{QuietSource, ReadSource, Source, WriteSink};
 use book_base::Bytes;
-use scope_run::{Asked, run};
-use scope_words::Word;
+use scope_run::{Asked, Word, run};
 
 /// A source for what the words don't ask for.
 fn none(rt: &HostRuntime) -> QuietSource {

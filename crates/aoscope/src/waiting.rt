@@ -1,6 +1,6 @@
 //! What is told at a terminal, where a word waits for its input.
 use ao_base::{Failed, WriteSink, write_all};
-use scope_words::Word;
+use scope_run::Word;
 use std::io::IsTerminal;
 
 /// What the word reads from standard input, and how it is given.

@@ -6,7 +6,7 @@ use Rattle.book_keys.specs.declared.new_row.NoRow.{NoRow}
 use Rattle.book_endpoint.specs.States.{EndState}
 use Rattle.book_cmd_node.specs.NodeRuns as node
 use Rattle.book_stack.specs.declared.front.Front.{Front}
-use Rattle.book_counters.specs.Counters.{StackCounts}
+use Rattle.book_stack.specs.Counters.{StackCounts}
 use Rattle.book_stack.specs.Calls as book
 use Rattle.book_stack.specs.Calls.{Call, CallAnswer, call}
 use Rattle.book_segments.specs.Segments.{spell}
@@ -14,16 +14,16 @@ use Rattle.book_stack.specs.Stacks.{StackState, handed}
 use Rattle.book_stack.specs.Watches.{end_front}
 use Rattle.tcp_endpoint.specs.declared.send.GiveAnswer.{GiveAnswer}
 use Rattle.tcp_endpoint.specs.declared.send.GiveAnswer.TheVariants as given
-use Rattle.node_ends.specs.declared.answer.NodeRefusal.{NodeRefusal}
-use Rattle.node_ends.specs.declared.answer.NodeRefusal.TheVariants as refusals
+use Rattle.stack_ends.specs.declared.answer.NodeRefusal.{NodeRefusal}
+use Rattle.stack_ends.specs.declared.answer.NodeRefusal.TheVariants as refusals
 use Rattle.stack_ends.specs.declared.calls.Taken.{Taken}
 use Rattle.ao_stack.specs.Answers.{HasTaken, IsBegun, IsDone, IsGiven, IsHanded, IsTaken, IsWithdrawn}
-use Rattle.ao_counters.specs.declared.counted_stack.CountedStack.{CountedStack}
-use Rattle.ao_counters.specs.Answers.{BeginsAs, Follows}
+use Rattle.ao_stack.specs.declared.counted_stack.CountedStack.{CountedStack}
+use Rattle.ao_stack.specs.CountersAnswers.{BeginsAs, Follows}
 use Rattle.aotcp_c.specs.declared.shapes.CState.{CState}
 use Rattle.aotcp_c.specs.declared.shapes.CTaken.{CTaken}
 use Rattle.aotcp_c.specs.declared.shapes.CCounters.{CCounters}
-use Rattle.ao_counters.specs.Stands.{Stands}
+use Rattle.ao_stack.specs.CountersStands.{Stands}
 use Rattle.aotcp_c.specs.Calls.{Answers, IsIn, IsRead, IsStateOf, OnStack, Tells, Tries}
 use Rattle.aotcp_c.specs.Counters.{TellsNode}
 use Rattle.aotcp_c.specs.Codes.{begun_code, code_of, done_code, given_code, withdrawn_code}

@@ -4,3 +4,4 @@ pub mod RowLaws
 pub mod ShimAnswers
 pub mod ShimPlaces
 pub mod TallyLaws
+pub mod Values

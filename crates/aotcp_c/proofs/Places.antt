@@ -17,7 +17,7 @@ use Rattle.std.specs.Prelude.{is_some, true}
 use Rattle.std.proofs.lemmas.Bool.{false≢true}
 use Rattle.aotcp_c.specs.Held.{held_stack, content}
 use Rattle.aotcp_c.specs.contracts.handle.Place.{the_row, the_type}
-use Rattle.ao_counters.specs.contracts.counted_stack.CountedStack.{the_row as store}
+use Rattle.ao_stack.specs.contracts.counted_stack.CountedStack.{the_row as store}
 
 abbrev pub word : Ptr → Val
 word p = vstruct (vcons (ptr_val p) vnil)

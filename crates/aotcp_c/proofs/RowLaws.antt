@@ -3,14 +3,14 @@ use Rattle.std.proofs.Common.{◌≡◌, ◌≢◌, ◌∙◌, sym, ap, refl, su
 use Rattle.book_keys.specs.declared.new_row.AddRefusal.{AddRefusal}
 use Rattle.book_keys.specs.declared.new_row.AddRefusal.TheVariants as refused
 use Rattle.book_keys.specs.declared.new_row.NewRow.{NewRow}
-use Rattle.book_counters.specs.Counters.{StackCounts}
+use Rattle.book_stack.specs.Counters.{StackCounts}
 use Rattle.book_stack.specs.Calls as book
 use Rattle.book_stack.specs.Calls.{CallAnswer, call}
 use Rattle.book_stack.specs.Stacks.{StackState}
 use Rattle.ao_stack.specs.Answers.{IsAdded}
-use Rattle.ao_counters.specs.declared.counted_stack.CountedStack.{CountedStack}
-use Rattle.ao_counters.specs.Answers.{AddsAs, Follows}
-use Rattle.ao_counters.specs.Stands.{Stands}
+use Rattle.ao_stack.specs.declared.counted_stack.CountedStack.{CountedStack}
+use Rattle.ao_stack.specs.CountersAnswers.{AddsAs, Follows}
+use Rattle.ao_stack.specs.CountersStands.{Stands}
 use Rattle.aotcp_c.specs.Calls.{IsNumber}
 use Rattle.aotcp_c.specs.Codes.{added_code, code_of, no_memory, ok, overlap}
 use Rattle.aotcp_c.specs.RowShapes.{number_in}

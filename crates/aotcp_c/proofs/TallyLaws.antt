@@ -2,7 +2,7 @@
 use Rattle.std.proofs.Common.{◌≡◌, ◌∙◌, sym, ap, refl, ℤ, pos, true, false, Option, Some, None}
 use Rattle.std.specs.Prelude.{is_some}
 use Rattle.book_endpoint.specs.States.{EndState}
-use Rattle.book_counters.specs.declared.tally.Tally.{Tally}
+use Rattle.book_stack.specs.declared.tally.Tally.{Tally}
 use Rattle.aotcp_c.specs.declared.shapes.CCounters.{CCounters}
 use Rattle.aotcp_c.specs.Counters.{IsTallyOf, SaysHeld, told_counters}
 

@@ -15,7 +15,7 @@ use Rattle.book_cmd_node.specs.declared.node.Act.{Act}
 use Rattle.book_cmd_node.specs.declared.node.Act.TheVariants as act
 use Rattle.book_cmd_node.specs.NodeRuns as node
 use Rattle.book_cmd_node.specs.NodeRuns.{held_end}
-use Rattle.book_counters.specs.Counters.{StackCounts, no_stack_counts}
+use Rattle.book_stack.specs.Counters.{StackCounts, no_stack_counts}
 use Rattle.book_stack.specs.Calls as book
 use Rattle.book_stack.specs.Calls.{Call, CallAnswer, Incoming}
 use Rattle.book_stack.specs.Stacks.{StackState, empty_stack, handed, timed_out}
@@ -25,9 +25,9 @@ use Rattle.stack_timers.specs.Watches.{latest}
 use Rattle.ao_stack.specs.declared.input.Heard.{Heard}
 use Rattle.ao_stack.specs.Answers.{IsHeard}
 use Rattle.ao_stack.specs.Passed.{PassesAs}
-use Rattle.ao_counters.specs.declared.counted_stack.CountedStack.{CountedStack}
-use Rattle.ao_counters.specs.Answers.{Follows}
-use Rattle.ao_counters.specs.Stands.{Stands}
+use Rattle.ao_stack.specs.declared.counted_stack.CountedStack.{CountedStack}
+use Rattle.ao_stack.specs.CountersAnswers.{Follows}
+use Rattle.ao_stack.specs.CountersStands.{Stands}
 use Rattle.aotcp_c.specs.declared.shapes.CFault.{CFault}
 use Rattle.aotcp_c.specs.declared.shapes.CHeard.{CHeard}
 use Rattle.aotcp_c.specs.declared.shapes.CRow.{CRow}

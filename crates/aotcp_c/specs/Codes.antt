@@ -9,8 +9,8 @@ use Rattle.book_stack.specs.Calls as book
 use Rattle.book_stack.specs.Calls.{CallAnswer}
 use Rattle.tcp_endpoint.specs.declared.send.GiveAnswer.{GiveAnswer}
 use Rattle.tcp_endpoint.specs.declared.send.GiveAnswer.TheVariants as given
-use Rattle.node_ends.specs.declared.answer.NodeRefusal.{NodeRefusal}
-use Rattle.node_ends.specs.declared.answer.NodeRefusal.TheVariants as refusals
+use Rattle.stack_ends.specs.declared.answer.NodeRefusal.{NodeRefusal}
+use Rattle.stack_ends.specs.declared.answer.NodeRefusal.TheVariants as refusals
 
 -- it was done (own)
 abbrev pub ok : ℤ

@@ -1,6 +1,6 @@
 -- What a handle holds.
 use Rattle.std.specs.declared.option.Option.{Option}
-use Rattle.ao_counters.specs.declared.counted_stack.CountedStack.{CountedStack}
+use Rattle.ao_stack.specs.declared.counted_stack.CountedStack.{CountedStack}
 use Rattle.aotcp_c.specs.declared.handle.Handle.{Handle}
 use Rattle.aotcp_c.specs.Held.{content}
 

@@ -7,7 +7,7 @@ use denote.RawPtr.{Ptr}
 use Rattle.std.specs.Box.Ownership.{box_owns}
 use Rattle.std.specs.declared.alloc.Global.{Global}
 use Rattle.std.specs.contracts.impls.GlobalAllocator.TheImpl.{ghosts}
-use Rattle.ao_counters.specs.contracts.counted_stack.CountedStack.{the_row as stack}
+use Rattle.ao_stack.specs.contracts.counted_stack.CountedStack.{the_row as stack}
 use Rattle.shim_pairs.specs.contracts.shim.Shim.{the_row as shim}
 
 -- at p the box of a value, beside the allocator that it came from; or nothing (own)

@@ -6,7 +6,7 @@ use Rattle.book_keys.specs.MasterKeys.{longest_master_key}
 use Rattle.book_keys.specs.Nodes.{tables_of}
 use Rattle.book_keys.specs.Rows.{Table, has_address}
 use Rattle.book_cmd_node.specs.NodeRuns.{most_ends}
-use Rattle.ao_counters.specs.declared.counted_stack.CountedStack.{CountedStack}
+use Rattle.ao_stack.specs.declared.counted_stack.CountedStack.{CountedStack}
 use Rattle.aotcp_c.specs.declared.shapes.CFault.{CFault}
 use Rattle.aotcp_c.specs.Calls.{IsFaulty}
 use Rattle.aotcp_c.specs.Codes.{bad_family, bad_keys, bad_most, holds_one, no_memory, no_node, no_row, ok, small_room}

@@ -8,8 +8,8 @@ use Rattle.book_keys.specs.declared.fault.TableFault.TheVariants as fault
 use Rattle.book_endpoint.specs.declared.passed.Passed.{Passed}
 use Rattle.book_stack.specs.declared.front.Front.{Front}
 use Rattle.tcp_endpoint.specs.Arrivals.{passed_of}
-use Rattle.node_ends.specs.declared.answer.NodeArrival.{NodeArrival}
-use Rattle.node_ends.specs.declared.answer.NodeArrival.TheVariants as told
+use Rattle.stack_ends.specs.declared.answer.NodeArrival.{NodeArrival}
+use Rattle.stack_ends.specs.declared.answer.NodeArrival.TheVariants as told
 use Rattle.ao_stack.specs.declared.input.Heard.{Heard}
 use Rattle.ao_stack.specs.declared.input.Heard.TheVariants as heard
 use Rattle.aotcp_c.specs.declared.shapes.CAddress.{CAddress}

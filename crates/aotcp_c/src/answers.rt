@@ -7,7 +7,7 @@ use crate::numbers::{arrival_number, datagram_number, reason_number, verdict_num
 use crate::pairs::{no_pair, told_pair};
 use crate::shapes::CHeard;
 use ao_stack::Heard;
-use node_ends::NodeArrival;
+use stack_ends::NodeArrival;
 use tcp_endpoint::Passing;
 
 /// The row under which a segment passed, 0 for none.

@@ -1,9 +1,9 @@
 //! The connection of a pair is called.
 ghost use Rattle.std.specs.Prelude.{◌≡◌};
 ghost use Rattle.book_cmd_node.specs.declared.node.Act.TheVariants as act;
-ghost use Rattle.book_counters.specs.Counters.{StackCounts};
+ghost use Rattle.book_stack.specs.Counters.{StackCounts};
 ghost use Rattle.book_stack.specs.Stacks.{StackState};
-ghost use Rattle.ao_counters.specs.Stands.{Stands};
+ghost use Rattle.ao_stack.specs.CountersStands.{Stands};
 ghost use Rattle.aotcp_c.specs.Calls.{CallsAt, OnStack};
 ghost use Rattle.aotcp_c.specs.Handles.{stack_in};
 ghost use Rattle.aotcp_c.specs.Shapes.{pair_of};
@@ -12,7 +12,7 @@ use crate::codes::{FAMILY, NO_STACK, done_code, given_code};
 use crate::handle::Handle;
 use crate::pairs::pair_of;
 use crate::shapes::CPair;
-use ao_counters::CountedStack;
+use ao_stack::CountedStack;
 use std::alloc::Global;
 use std::mem;
 

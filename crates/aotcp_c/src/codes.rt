@@ -3,7 +3,7 @@ ghost use Rattle.std.specs.Prelude.{◌≡◌};
 ghost use Rattle.aotcp_c.specs.Codes.{added_code, begun_code, done_code, given_code, withdrawn_code};
 
 use book_keys::{AddRefusal, NoRow};
-use node_ends::NodeRefusal;
+use stack_ends::NodeRefusal;
 use tcp_endpoint::GiveAnswer;
 
 /// It was done.

@@ -1,8 +1,8 @@
 //! What was counted is told.
 ghost use Rattle.std.specs.Prelude.{◌≡◌, ◌≢◌};
-ghost use Rattle.book_counters.specs.Counters.{StackCounts};
+ghost use Rattle.book_stack.specs.Counters.{StackCounts};
 ghost use Rattle.book_stack.specs.Stacks.{StackState};
-ghost use Rattle.ao_counters.specs.Stands.{Stands};
+ghost use Rattle.ao_stack.specs.CountersStands.{Stands};
 ghost use Rattle.aotcp_c.specs.Calls.{OnStack};
 ghost use Rattle.aotcp_c.specs.Codes.{ok};
 ghost use Rattle.aotcp_c.specs.Counters.{IsTally, told_counters, told_ids, TellsNode};
@@ -13,7 +13,7 @@ use crate::codes::{FAMILY, NO_CONNECTION, NO_STACK, OK};
 use crate::handle::Handle;
 use crate::pairs::pair_of;
 use crate::shapes::{CCounters, CKeyIds, CPair};
-use ao_counters::{CountedStack, Counters, KeyIds, KeyIdsSeen};
+use ao_stack::{CountedStack, Counters, KeyIds, KeyIdsSeen};
 use std::alloc::Global;
 use std::mem;
 

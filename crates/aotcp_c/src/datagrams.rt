@@ -1,8 +1,8 @@
 //! Datagrams come and go.
 ghost use Rattle.std.specs.Prelude.{◌≡◌, ◌≢◌, ◌≤◌, ◌<◌, length};
-ghost use Rattle.book_counters.specs.Counters.{StackCounts};
+ghost use Rattle.book_stack.specs.Counters.{StackCounts};
 ghost use Rattle.book_stack.specs.Stacks.{StackState};
-ghost use Rattle.ao_counters.specs.Stands.{Stands};
+ghost use Rattle.ao_stack.specs.CountersStands.{Stands};
 ghost use Rattle.aotcp_c.specs.Calls.{Hears, OnStack, Sends};
 ghost use Rattle.aotcp_c.specs.Codes.{no_stack, ok};
 ghost use Rattle.aotcp_c.specs.Handles.{stack_in};
@@ -11,7 +11,7 @@ use crate::answers::heard_of;
 use crate::codes::{NO_STACK, NOTHING, OK, ROOM, TIME};
 use crate::handle::Handle;
 use crate::shapes::CHeard;
-use ao_counters::CountedStack;
+use ao_stack::CountedStack;
 use std::alloc::Global;
 use std::mem;
 

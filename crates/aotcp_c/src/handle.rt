@@ -1,11 +1,11 @@
 //! The handle of a stack, and what it holds.
 ghost use Rattle.std.specs.Prelude.{◌≡◌, true, Some, None, Option, is_some, option_map};
 ghost use Rattle.std.specs.declared.alloc.Global.{Global as Heap};
-ghost use Rattle.ao_counters.specs.declared.counted_stack.CountedStack.{CountedStack as OneStack};
+ghost use Rattle.ao_stack.specs.declared.counted_stack.CountedStack.{CountedStack as OneStack};
 ghost use Rattle.aotcp_c.specs.Held.{held_stack, content};
 
-use ao_counters::CountedStack;
-use loose::Loose;
+use crate::loose::Loose;
+use ao_stack::CountedStack;
 use std::alloc::Global;
 use std::marker::Model;
 use std::ptr::null_mut;

@@ -1,4 +1,4 @@
-//! Stacks and shims for programs in C: the calls of `ao_counters::CountedStack` and of `shim_pairs::Shim` over a
+//! Stacks and shims for programs in C: the calls of `ao_stack::CountedStack` and of `shim_pairs::Shim` over a
 //! handle that a C program holds, with numbers for their answers. No call has a condition on its numbers: what a C
 //! program may get wrong is tested, and answered by a code. `include/aotcp.h` declares them.
 #![tactic(auto)]
@@ -11,6 +11,7 @@ mod datagrams;
 mod faults;
 mod handle;
 mod key_file;
+mod loose;
 mod numbers;
 mod open;
 mod pairs;

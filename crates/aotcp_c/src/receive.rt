@@ -1,8 +1,8 @@
 //! Bytes that were received are taken.
 ghost use Rattle.std.specs.Prelude.{◌≡◌, ◌≢◌};
-ghost use Rattle.book_counters.specs.Counters.{StackCounts};
+ghost use Rattle.book_stack.specs.Counters.{StackCounts};
 ghost use Rattle.book_stack.specs.Stacks.{StackState};
-ghost use Rattle.ao_counters.specs.Stands.{Stands};
+ghost use Rattle.ao_stack.specs.CountersStands.{Stands};
 ghost use Rattle.aotcp_c.specs.Calls.{OnStack, Reads};
 ghost use Rattle.aotcp_c.specs.Codes.{ok};
 ghost use Rattle.aotcp_c.specs.Handles.{stack_in};
@@ -12,7 +12,7 @@ use crate::codes::{FAMILY, NO_CONNECTION, NO_STACK, OK};
 use crate::handle::Handle;
 use crate::pairs::pair_of;
 use crate::shapes::{CPair, CTaken};
-use ao_counters::CountedStack;
+use ao_stack::CountedStack;
 use std::alloc::Global;
 use std::mem;
 

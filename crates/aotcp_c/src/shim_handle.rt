@@ -4,7 +4,7 @@ ghost use Rattle.std.specs.declared.alloc.Global.{Global as Heap};
 ghost use Rattle.shim_pairs.specs.Holdings.{ShimState as OneShim};
 ghost use Rattle.aotcp_c.specs.Held.{content, held_shim};
 
-use loose::Loose;
+use crate::loose::Loose;
 use shim_pairs::Shim;
 use std::alloc::Global;
 use std::marker::Model;

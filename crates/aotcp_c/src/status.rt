@@ -12,7 +12,7 @@ use crate::handle::Handle;
 use crate::numbers::phase_number;
 use crate::pairs::pair_of;
 use crate::shapes::{CPair, CState};
-use ao_counters::CountedStack;
+use ao_stack::CountedStack;
 use book_stack::Front;
 use std::alloc::Global;
 use std::mem;

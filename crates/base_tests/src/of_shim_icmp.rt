@@ -1,7 +1,7 @@
 //! What an ICMP datagram is, by worked ones: a change of a few bytes tells one case from another.
 use book_base::{Address, Pair, Socket};
 use book_shim::Notice;
-use shim_icmp::read_notice;
+use shim_pairs::read_notice;
 use std::test::Fail;
 
 /// "Port unreachable" from 10.0.0.2 about a segment from 10.0.0.1, port 179, to 10.0.0.2, port 40000.

@@ -1,12 +1,12 @@
 //! A pool of three places, read both ways.
 ghost use Rattle.std.specs.Prelude.{◌≡◌, ◌<◌, IfSome};
-ghost use Rattle.slot_list.specs.Pool.{Holds};
+ghost use Rattle.stream_buffers.specs.Pool.{Holds};
 
 use ao_base::Steps;
-use slot_list::{Slot, Slots};
 use std::marker::Brand;
 use std::sync::ledger::{Blank, Ledger};
 use std::test::Fail;
+use stream_buffers::{Slot, Slots};
 
 #[test]
 fn three_places_are_used_again_and_read_both_ways(rt: HostRuntime) -> Result<(), Fail> {

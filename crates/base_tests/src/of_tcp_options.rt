@@ -1,6 +1,6 @@
 //! What is found of an area for its reader: `show` lists the options themselves.
 use std::test::Fail;
-use tcp_options::{AoFound, read_options};
+use tcp_segment::{AoFound, read_options};
 
 /// Kind 1, a maximum segment size, TCP-AO with a MAC of two bytes, kinds 1 and 0, and a faulty option behind them.
 const AREA: [u8; 16] = [

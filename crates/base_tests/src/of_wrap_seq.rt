@@ -1,5 +1,5 @@
 //! The edges of the halves, of the ring and of 64 bits.
-use wrap_seq::{Counter, ahead, extend, in_window, next_from};
+use tcp_segment::{Counter, ahead, extend, in_window, next_from};
 
 /// A field, an expected number, and the number that the field means there.
 const EDGES: [(u32, u64, Option<u64>); 28] = [

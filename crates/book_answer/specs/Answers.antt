@@ -29,21 +29,21 @@ use Rattle.book_keys.specs.declared.plan.Plan.{Plan}
 use Rattle.book_cmd_node.specs.declared.node.NodeScript.{NodeScript}
 use Rattle.book_cmd_link.specs.declared.script.Script.{Script}
 use Rattle.book_cmd_link.specs.declared.script.SharedKey.{SharedKey}
-use Rattle.book_cmd_timed.specs.declared.timed.TimedScript.{TimedScript}
-use Rattle.book_cmd_show.specs.declared.verified.Verified.{Verified}
-use Rattle.book_cmd_bgp.specs.BgpRuns.{bgp_text, bgp_faults}
+use Rattle.book_cmd_link.specs.declared.timed.TimedScript.{TimedScript}
+use Rattle.book_cmd_check.specs.declared.verified.Verified.{Verified}
+use Rattle.book_cmd_link.specs.BgpRuns.{bgp_text, bgp_faults}
 use Rattle.book_cmd_check.specs.Captures.{Stored, capture_run, has_refusal}
 use Rattle.book_answer.specs.Commands.{command_of, reads_keys, reads_input, usage}
-use Rattle.book_cmd_keys.specs.KeyTexts.{keys_text, table_fault_line}
+use Rattle.book_cmd_link.specs.KeyTexts.{keys_text, table_fault_line}
 use Rattle.book_cmd_link.specs.declared.script.KeysFrom.TheVariants as keys_from
 use Rattle.book_cmd_link.specs.LinkFiles.{script_of}
-use Rattle.book_cmd_keys.specs.LintTexts.{lint_pair_of, has_misfit, lint_text}
+use Rattle.book_cmd_link.specs.LintTexts.{lint_pair_of, has_misfit, lint_text}
 use Rattle.book_cmd_node.specs.NodeRuns.{node_script_of, node_text}
-use Rattle.book_cmd_show.specs.Show.{show_of}
+use Rattle.book_cmd_check.specs.Show.{show_of}
 use Rattle.book_cmd_check.specs.StoredLines.{LineFault, StoredInput, stored_input}
-use Rattle.book_cmd_timed.specs.TimedRuns.{expand, timed_script_of}
-use Rattle.book_cmd_show.specs.Verified.{vectors_of}
-use Rattle.book_cmd_timed.specs.TimedRuns.{most_events}
+use Rattle.book_cmd_link.specs.TimedRuns.{expand, timed_script_of}
+use Rattle.book_cmd_check.specs.Verified.{vectors_of}
+use Rattle.book_cmd_link.specs.TimedRuns.{most_events}
 use Rattle.book_cmd_link.specs.LinkFiles.{shared_by}
 use Rattle.book_cmd_check.specs.StoredPackets.{stored_packet}
 

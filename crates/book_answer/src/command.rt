@@ -1,5 +1,5 @@
 //! The commands of the program.
-use book_cmd_keys::Plan;
+use book_cmd_link::Plan;
 
 /// What the program is asked to do.
 #[derive(Clone, Copy, Debug, PartialEq, Eq)]

@@ -7,3 +7,5 @@ pub mod PcapFiles
 pub mod PcapngFiles
 pub mod Spelled
 pub mod WholeFiles
+pub mod FaultTexts
+pub mod PacketLines

@@ -5,7 +5,7 @@ use Rattle.book_segments.specs.Sockets.{same_socket}
 use Rattle.book_segments.specs.Segments.{Segment, Reading, Read, reading, has, pair_reached, SYN, ACK}
 use Rattle.book_keys.specs.Rows.{Table, has_address}
 use Rattle.book_endpoint.specs.Verdicts.{Judgement}
-use Rattle.book_cmd_show.specs.DatagramTexts.{checksum_in}
+use Rattle.book_cmd_check.specs.DatagramTexts.{checksum_in}
 use Rattle.book_cmd_check.specs.declared.given.GivenIsns.{GivenIsns}
 use Rattle.book_cmd_check.specs.Captures.{Connection, Heard, acknowledged_isn, connection_between, fixed, hear, hear_at, hear_judged, hear_later, hear_read, hear_syn_ack, is_pass, judge_stored, most_connections, same_isns, with_connection, Judged, TooManyConnections, UnknownNode}
 use Rattle.book_cmd_check.specs.Handshakes.{EndsHandshake, and_given, given_connection, told_by, with_begun}

@@ -16,8 +16,8 @@ use Rattle.book_keys.specs.Rows.{Row, Table, has_address}
 use Rattle.book_endpoint.specs.Verdicts.{Finding, Judgement, Known, judge}
 use Rattle.book_link.specs.Reports.{verdict_text}
 use Rattle.book_lines.specs.Texts.{numbered_text}
-use Rattle.book_cmd_show.specs.declared.checksum.Checksum.{Checksum}
-use Rattle.book_cmd_show.specs.DatagramTexts.{checksum_in, checksum_text}
+use Rattle.book_cmd_check.specs.declared.checksum.Checksum.{Checksum}
+use Rattle.book_cmd_check.specs.DatagramTexts.{checksum_in, checksum_text}
 use Rattle.book_segments.specs.Segments.{pair_reached}
 
 -- a datagram that was stored: its number in the input, its time, its bytes (own)

@@ -3,3 +3,8 @@ pub mod Connections
 pub mod Handshakes
 pub mod StoredLines
 pub mod StoredPackets
+pub mod DatagramTexts
+pub mod Show
+pub mod VectorWords
+pub mod Vectors
+pub mod Verified

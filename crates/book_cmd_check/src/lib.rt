@@ -3,10 +3,14 @@
 //! code shares with them; the empty functions carry theorems about them. Our own format.
 #![tactic(auto)]
 
+mod checksum;
 mod given;
 mod laws;
 mod limits;
+mod verified;
 
+pub use checksum::Checksum;
 pub use given::GivenIsns;
 pub use laws::{connections_are_a_map, given_isns_are_those_of_a_handshake};
 pub use limits::MOST_LINE;
+pub use verified::Verified;

@@ -3,5 +3,10 @@
 #![tactic(auto)]
 
 mod script;
+mod timed;
+mod timer;
 
+pub use book_keys::Plan;
 pub use script::{KeysFrom, Script, SharedKey};
+pub use timed::{TimedEvent, TimedEvents, TimedScript};
+pub use timer::{Smoothed, Timer};

@@ -3,3 +3,7 @@ pub mod Fates
 pub mod Ladders
 pub mod Margins
 pub mod Rungs
+pub mod Folds
+pub mod SessionLadders
+pub mod SessionRungs
+pub mod Times

@@ -3,8 +3,18 @@
 //! carry theorems about them.
 #![tactic(auto)]
 
+mod fold;
 mod laws;
 mod rung;
+mod session_laws;
+mod session_rung;
+mod span;
 
+pub use fold::{Folding, RungKinds, RungRun, SessionLine};
 pub use laws::arrows_are_those_of_the_run;
 pub use rung::{Brought, Deed, Delivery, Reply, Rung, Sketch};
+pub use session_laws::{
+    lines_stand_for_all, rungs_are_those_of_the_segments, rungs_are_those_of_the_table,
+};
+pub use session_rung::{SessionEnds, SessionRung};
+pub use span::{DrawnTime, LeftOut, LeftRun, LeftSide};

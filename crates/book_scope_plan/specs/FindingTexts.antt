@@ -12,7 +12,7 @@ use Rattle.book_plans.specs.declared.differences.Differences.{Differences}
 use Rattle.book_plans.specs.Differences.{differences}
 use Rattle.book_plans.specs.Findings.{wanted_accepting}
 use Rattle.book_keys.specs.declared.plan.Plan.{Plan}
-use Rattle.book_scope_keys.specs.FieldTexts.{text_shown}
+use Rattle.book_scope_texts.specs.FieldTexts.{text_shown}
 use Rattle.book_scope_texts.specs.Instants.{instant_text}
 use Rattle.book_scope_plan.specs.AdminNames.{admin_name}
 use Rattle.toml.specs.Data.{Members}

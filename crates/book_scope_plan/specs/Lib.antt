@@ -7,3 +7,7 @@ pub mod WayTexts
 pub mod Notes
 pub mod Reconfiguring
 pub mod PlanTexts
+pub mod BarOrders
+pub mod Bars
+pub mod Slices
+pub mod Wrongs

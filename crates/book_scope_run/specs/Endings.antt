@@ -5,9 +5,9 @@ use Rattle.std.specs.Prelude.{if◌then◌else◌}
 use Rattle.book_lines.specs.Faults.{input_fault_text, kind_text}
 use Rattle.book_lines.specs.Texts.{line_text}
 use Rattle.book_lines.specs.declared.text_fault.TextFault.TheVariants as lines
-use Rattle.book_cmd_keys.specs.KeyTexts.{table_fault_line}
-use Rattle.book_scope.specs.FaultTexts.{capture_fault_text}
-use Rattle.book_scope_keys.specs.FieldTexts.{text_shown}
+use Rattle.book_cmd_link.specs.KeyTexts.{table_fault_line}
+use Rattle.book_captures.specs.FaultTexts.{capture_fault_text}
+use Rattle.book_scope_texts.specs.FieldTexts.{text_shown}
 use Rattle.book_scope_run.specs.declared.halt.Argument.{Argument}
 use Rattle.book_scope_run.specs.declared.halt.Argument.TheVariants as argument
 use Rattle.book_scope_run.specs.declared.halt.Wanted.{Wanted}

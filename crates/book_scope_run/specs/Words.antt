@@ -6,7 +6,7 @@ use Rattle.book_base.specs.Decimals.{decimal_of}
 use Rattle.book_base.specs.Results.{◌>>=◌, or_fault}
 use Rattle.book_keys.specs.Lifetimes.{greatest_time}
 use Rattle.book_keys.specs.declared.plan.Plan.{Plan}
-use Rattle.book_draw_session.specs.declared.span.DrawnTime.{DrawnTime}
+use Rattle.book_draw.specs.declared.span.DrawnTime.{DrawnTime}
 use Rattle.book_scope_texts.specs.Durations.{duration_of}
 use Rattle.book_scope_texts.specs.Instants.{instant_of}
 use Rattle.book_scope_run.specs.declared.halt.Argument.{Argument}

@@ -3,5 +3,7 @@
 #![tactic(auto)]
 
 mod halt;
+mod laws;
 
 pub use halt::{Argument, Halt, Misuse, Origin, Wanted};
+pub use laws::the_report_is_told;

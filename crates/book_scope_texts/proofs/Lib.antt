@@ -1,2 +1,5 @@
 pub mod AddressLaws
 pub mod InstantLaws
+pub mod PlaceLaws
+pub mod SecretLaws
+pub mod WalkLaws

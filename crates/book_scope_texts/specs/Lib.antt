@@ -2,3 +2,11 @@ pub mod Addresses
 pub mod Instants
 pub mod Durations
 pub mod AddressWords
+pub mod FieldTexts
+pub mod FileFindings
+pub mod Hints
+pub mod Places
+pub mod RowFindings
+pub mod Suggestions
+pub mod TomlFaults
+pub mod Moments

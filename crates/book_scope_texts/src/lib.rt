@@ -4,7 +4,11 @@
 #![tactic(auto)]
 
 mod calendar_day;
+mod finding;
+mod key_laws;
 mod laws;
 
 pub use calendar_day::CalendarDay;
+pub use finding::{KeyFinding, KeyPlace, KeySpot, SecretFault, TextPlace, TomlFault};
+pub use key_laws::findings_are_of_the_walk;
 pub use laws::addresses_are_read_back;

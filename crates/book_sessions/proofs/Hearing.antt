@@ -8,7 +8,7 @@ use Rattle.book_segments.specs.Sockets.{same_socket}
 use Rattle.book_keys.specs.Rows.{Table, has_address}
 use Rattle.book_endpoint.specs.Verdicts.{Finding, Judgement}
 use Rattle.book_endpoint.specs.declared.refusal.Refusal.TheVariants.{NoAo, TwoAo, WithMd5, NoTuple, Expired, MacLength, NoContext, Range, BadMac}
-use Rattle.book_cmd_show.specs.DatagramTexts.{checksum_in}
+use Rattle.book_cmd_check.specs.DatagramTexts.{checksum_in}
 use Rattle.book_cmd_check.specs.Captures.{Stored, Connection, Heard, Saying, Unreadable, UnknownNode, Judged, TooManyConnections, connection_between, with_connection, fixed, most_connections, judge_stored, hear_later, hear_syn_ack, hear_judged, hear_at, hear_read}
 use Rattle.book_sessions.specs.declared.outcome.SegmentOutcome.{SegmentOutcome}
 use Rattle.book_sessions.specs.declared.outcome.SegmentOutcome.TheVariants as outcome

@@ -15,3 +15,6 @@ pub mod Retiring
 pub mod SessionTexts
 pub mod Sessions
 pub mod TableTexts
+pub mod CheckedLines
+pub mod CheckedPackets
+pub mod Outcomes

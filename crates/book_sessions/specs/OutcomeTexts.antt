@@ -6,7 +6,7 @@ use Rattle.book_segments.specs.Faults.{fault_text}
 use Rattle.book_captures.specs.declared.reasons.Skipped.{Skipped}
 use Rattle.book_captures.specs.declared.reasons.Skipped.TheVariants as skipped
 use Rattle.book_link.specs.Reports.{verdict_text}
-use Rattle.book_scope.specs.PacketLines.{reason_text}
+use Rattle.book_captures.specs.PacketLines.{reason_text}
 use Rattle.book_sessions.specs.declared.outcome.SegmentOutcome.{SegmentOutcome}
 use Rattle.book_sessions.specs.declared.outcome.SegmentOutcome.TheVariants as outcome
 use Rattle.book_sessions.specs.declared.outcome.PassedOver.{PassedOver}

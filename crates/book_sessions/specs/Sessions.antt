@@ -19,7 +19,7 @@ use Rattle.book_cmd_check.specs.declared.given.GivenIsns.{GivenIsns}
 use Rattle.book_captures.specs.declared.reasons.Skipped.{Skipped}
 use Rattle.book_captures.specs.Frames.{Datagram}
 use Rattle.book_captures.specs.Captures.{CapturePacket, frame_datagram}
-use Rattle.book_scope.specs.PacketLines.{judged_bytes}
+use Rattle.book_captures.specs.PacketLines.{judged_bytes}
 use Rattle.book_sessions.specs.declared.outcome.SegmentOutcome.{SegmentOutcome}
 use Rattle.book_sessions.specs.declared.outcome.SegmentOutcome.TheVariants.{CutOff}
 use Rattle.book_sessions.specs.declared.outcome.PassedOver.{PassedOver}

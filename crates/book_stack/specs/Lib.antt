@@ -5,3 +5,5 @@ pub mod Stacks
 pub mod Turns
 pub mod Calls
 pub mod Runs
+pub mod KeyIds
+pub mod Counters

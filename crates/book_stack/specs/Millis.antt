@@ -1,8 +1,8 @@
 -- The retransmission timer on a clock of milliseconds (RFC 6298, section 2).
 use Rattle.std.specs.Prelude.{ℕ, ◌+◌, ◌*◌, min, max, Some, None}
-use Rattle.book_timers.specs.declared.timer.Timer.{Timer}
-use Rattle.book_timers.specs.declared.timer.Smoothed.{Smoothed}
-use Rattle.book_timers.specs.Timers.{bounded, smoothed_with}
+use Rattle.book_cmd_link.specs.declared.timer.Timer.{Timer}
+use Rattle.book_cmd_link.specs.declared.timer.Smoothed.{Smoothed}
+use Rattle.book_cmd_link.specs.Timers.{bounded, smoothed_with}
 
 -- the value that smoothed times give: SRTT plus the greater of G, which is 1 here, and four times
 -- RTTVAR, within its bounds (RFC 6298, sections 2.2 to 2.5)

@@ -2,8 +2,8 @@
 -- sections 3 and 5). Times are in milliseconds since 1970.
 use Rattle.std.specs.Prelude.{ℕ, ◌+◌, ◌-◌, ◌*◌, ◌/◌, nat_lt, nat_le, Bool, true, false, not, ◌&&◌}
 use Rattle.std.specs.Prelude.{◌||◌, Option, Some, None, is_some, if◌then◌else◌}
-use Rattle.book_timers.specs.declared.timer.Timer.{Timer}
-use Rattle.book_timers.specs.Timers.{new_timer, expired}
+use Rattle.book_cmd_link.specs.declared.timer.Timer.{Timer}
+use Rattle.book_cmd_link.specs.Timers.{new_timer, expired}
 use Rattle.book_endpoint.specs.declared.arrival.Arrival.{Arrival}
 use Rattle.book_endpoint.specs.declared.arrival.Arrival.TheVariants.{Bad, Foreign, Checksum}
 use Rattle.book_endpoint.specs.declared.arrival.Arrival.TheVariants.{Closed as AtClosed, Refused}

@@ -5,7 +5,13 @@
 #![tactic(auto)]
 
 mod alarm;
+mod counters;
 mod front;
+mod key_ids;
+mod tally;
 
 pub use alarm::Alarm;
+pub use counters::Counters;
 pub use front::{Change, Front, Timed};
+pub use key_ids::{KeyIds, KeyIdsSeen};
+pub use tally::Tally;

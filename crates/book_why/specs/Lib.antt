@@ -2,3 +2,10 @@ pub mod Changes
 pub mod ChangeTexts
 pub mod Judging
 pub mod Recipes
+pub mod Answers
+pub mod Inquiries
+pub mod Lacks
+pub mod MacTexts
+pub mod OtherIsns
+pub mod Sights
+pub mod Suspects

@@ -13,8 +13,8 @@ use Rattle.book_segments.proofs.SocketLaws.{low_apart}
 use Rattle.book_keys.specs.Rows.{Row, Table}
 use Rattle.ao_check.specs.Verdicts.{Verdict}
 use Rattle.book_endpoint.specs.Verdicts.{Judgement, judge}
-use Rattle.book_cmd_show.specs.declared.checksum.Checksum.{Checksum}
-use Rattle.book_cmd_show.specs.DatagramTexts.{checksum_in}
+use Rattle.book_cmd_check.specs.declared.checksum.Checksum.{Checksum}
+use Rattle.book_cmd_check.specs.DatagramTexts.{checksum_in}
 use Rattle.book_cmd_check.specs.declared.given.GivenIsns.{GivenIsns}
 use Rattle.book_cmd_check.specs.Handshakes.{and_given, given_connection, has_room, told_by, with_begun}
 use Rattle.book_cmd_check.specs.Captures.{Connection, Heard, acknowledged_isn, connection_between, fixed, hear_judged, hear_later, hear_syn_ack, judge_stored, most_connections, same_isns, with_connection}
@@ -29,7 +29,7 @@ use Rattle.capture_check.specs.declared.flow.Flow.{Flow}
 use Rattle.capture_check.specs.declared.flows.Flows.{Flows}
 use Rattle.capture_check.specs.Answers.{IsJudged, is_pass}
 use Rattle.capture_check.specs.Flows.{rows_of, way, both, flow_from, counter_of, new_flow, new_flows, IsFlow, shown}
-use Rattle.wrap_seq.specs.Counter.{number}
+use Rattle.tcp_segment.specs.Counter.{number}
 use Rattle.capture_check.specs.Checkers.{found, IsSound, told, StandsFor, Hears, Isns, isns, KeepsKeys}
 use Rattle.capture_check.specs.Judgements.{Puts, key_at, from_low, Alone, Fixed, TooMany, Fixes, has_isns, given_flows, fixing_given, fixing, DoesFix}
 use Rattle.capture_check.proofs.PutLaws.{stands_put, sound_put}

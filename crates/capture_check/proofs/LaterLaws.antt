@@ -11,9 +11,9 @@ use Rattle.book_segments.proofs.SocketLaws.{same_socket-refl}
 use Rattle.book_keys.specs.Rows.{Row, Table, has_address}
 use Rattle.ao_check.specs.Verdicts.{Verdict}
 use Rattle.book_endpoint.specs.Verdicts.{Judgement}
-use Rattle.book_cmd_show.specs.DatagramTexts.{checksum_in}
+use Rattle.book_cmd_check.specs.DatagramTexts.{checksum_in}
 use Rattle.book_cmd_check.specs.Captures.{Connection, Heard, connection_between, expecting, hear_judged, hear_later, hear_read, joins, judge_stored, with_connection}
-use Rattle.wrap_seq.specs.Counter.{number}
+use Rattle.tcp_segment.specs.Counter.{number}
 use Rattle.capture_check.specs.declared.answer.CheckLine.{CheckLine}
 use Rattle.capture_check.specs.declared.answer.CheckLine.TheVariants as line
 use Rattle.capture_check.specs.declared.flows.Flows.{Flows}

@@ -14,12 +14,12 @@ use Rattle.book_segments.proofs.SocketLaws.{low_apart}
 use Rattle.book_keys.specs.Rows.{Row, Table, has_address}
 use Rattle.book_endpoint.specs.declared.refusal.Refusal.{Refusal}
 use Rattle.book_endpoint.specs.Verdicts.{Finding, Judgement, judge}
-use Rattle.book_cmd_show.specs.DatagramTexts.{checksum_in}
+use Rattle.book_cmd_check.specs.DatagramTexts.{checksum_in}
 use Rattle.book_cmd_check.specs.Captures.{Connection, Heard, connection_between, hear_judged, hear_later, judge_stored, with_connection}
 use Rattle.book_segments.specs.Segments.{pair_reached}
 use Rattle.ao_kdf.specs.declared.way.Way.TheVariants.{Inbound}
 use Rattle.ao_check.specs.Bonds.{Bond}
-use Rattle.wrap_seq.specs.Counter.{number}
+use Rattle.tcp_segment.specs.Counter.{number}
 use Rattle.ao_check.specs.Verdicts.{Verdict, Tells, judging}
 use Rattle.capture_check.specs.declared.answer.CheckLine.{CheckLine}
 use Rattle.capture_check.specs.declared.answer.CheckLine.TheVariants as line

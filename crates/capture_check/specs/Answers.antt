@@ -6,8 +6,8 @@ use Rattle.book_macs.specs.Contexts.{bytes_of}
 use Rattle.book_endpoint.specs.Verdicts.{Finding, Judgement}
 use Rattle.book_endpoint.specs.declared.passed.Passed.{Passed}
 use Rattle.book_cmd_check.specs.Captures as book
-use Rattle.book_cmd_show.specs.declared.checksum.Checksum.{Checksum}
-use Rattle.book_cmd_show.specs.DatagramTexts.{checksum_text}
+use Rattle.book_cmd_check.specs.declared.checksum.Checksum.{Checksum}
+use Rattle.book_cmd_check.specs.DatagramTexts.{checksum_text}
 use Rattle.ao_check.specs.Verdicts.{Verdict, is_judged}
 use Rattle.capture_check.specs.declared.answer.CheckLine.{CheckLine}
 use Rattle.capture_check.specs.declared.answer.CheckLine.TheVariants as line

@@ -9,8 +9,8 @@ use Rattle.book_segments.specs.Segments.{Segment, has, segment_length, SYN}
 use Rattle.book_keys.specs.Rows.{Row, Table, has_address}
 use Rattle.book_endpoint.specs.Verdicts.{Judgement, judge}
 use Rattle.book_cmd_check.specs.Captures.{Connection, KnownSide}
-use Rattle.wrap_seq.specs.declared.counter.Counter.{Counter}
-use Rattle.wrap_seq.specs.Counter.{number}
+use Rattle.tcp_segment.specs.declared.counter.Counter.{Counter}
+use Rattle.tcp_segment.specs.Counter.{number}
 use Rattle.ao_kdf.specs.declared.way.Way.TheVariants.{Inbound}
 use Rattle.ao_kdf.specs.Cache.{empty}
 use Rattle.ao_check.specs.Bonds.{Fits, Counted}

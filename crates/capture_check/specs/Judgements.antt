@@ -14,7 +14,7 @@ use Rattle.book_segments.specs.Segments.{pair_reached}
 use Rattle.ao_check.specs.Verdicts.{Verdict, Tells, judging}
 use Rattle.capture_check.specs.declared.flows.Flows.{Flows}
 use Rattle.capture_check.specs.declared.known.KnownConnection.{KnownConnection}
-use Rattle.wrap_seq.specs.Counter.{number}
+use Rattle.tcp_segment.specs.Counter.{number}
 use Rattle.capture_check.specs.Checkers.{found}
 use Rattle.capture_check.specs.Flows.{way, FlowHears, new_flows}
 

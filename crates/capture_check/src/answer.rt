@@ -1,6 +1,6 @@
 //! What is said of a stored segment.
 
-use book_cmd_show::Checksum;
+use book_cmd_check::Checksum;
 use book_endpoint::{Passed, Refusal};
 use book_segments::DatagramFault;
 

@@ -1,7 +1,7 @@
 //! What is known of the segments of a connection that go one way.
 ghost use Rattle.std.specs.Prelude.{◌≡◌, ◌≤◌, ◌^◌, length, Some, IfOk, IfSome};
 ghost use Rattle.capture_check.specs.Flows.{new_flow, rows_of, expected_by, FlowHears};
-ghost use Rattle.wrap_seq.specs.Counter.{number};
+ghost use Rattle.tcp_segment.specs.Counter.{number};
 ghost use Rattle.ao_check.specs.Bonds.{fresh, Fits};
 
 use ao_base::Steps;
@@ -10,8 +10,7 @@ use book_base::{Pair, Socket};
 use key_table::{Table, Tables};
 use std::alloc::{AllocError, Global};
 use std::sync::ledger::Ledger;
-use tcp_segment::Datagram;
-use wrap_seq::Counter;
+use tcp_segment::{Counter, Datagram};
 
 /// One way of a connection: the initial sequence number of the sender, the number expected of it, at
 /// most 2^63, and the receiver's association, which keeps the traffic keys of this way.

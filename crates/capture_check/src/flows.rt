@@ -1,6 +1,6 @@
 //! Both ways of a connection.
 ghost use Rattle.std.specs.Prelude.{◌≡◌, ◌≤◌, ◌^◌, Some, IfOk, IfSome, not};
-ghost use Rattle.wrap_seq.specs.Counter.{number};
+ghost use Rattle.tcp_segment.specs.Counter.{number};
 ghost use Rattle.ao_check.specs.Bonds.{Fits};
 ghost use Rattle.capture_check.specs.Flows.{new_flows, rows_of, flow_from, way};
 ghost use Rattle.capture_check.specs.Judgements.{FlowsHear, has_isns, numbers_in};

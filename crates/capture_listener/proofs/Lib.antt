@@ -7,3 +7,13 @@ pub mod ListenLaws
 pub mod OpeningLaws
 pub mod OverLaws
 pub mod PassLaws
+pub mod EndsLaws
+pub mod FindLaws
+pub mod KeepLaws
+pub mod NumberLaws
+pub mod PlaceLaws
+pub mod ReasonLaws
+pub mod TableLaws
+pub mod AtPlaceLaws
+pub mod LeftLaws
+pub mod OwnUses

@@ -2,7 +2,7 @@
 use Rattle.std.proofs.Common.{◌≡◌, Bool, true, false, not, refl, ap, ◌∙◌, sym, Ok, Err, Option, Some, None}
 use Rattle.std.specs.Prelude.{◌&&◌}
 use Rattle.book_segments.specs.Segments.{Segment, has, SYN}
-use Rattle.book_cmd_show.specs.declared.checksum.Checksum.{Checksum}
+use Rattle.book_cmd_check.specs.declared.checksum.Checksum.{Checksum}
 use Rattle.book_cmd_check.specs.Captures.{Saying, Judged}
 use Rattle.book_endpoint.specs.Verdicts.{Finding, Judgement}
 use Rattle.book_endpoint.specs.declared.passed.Passed.{Passed}

@@ -12,8 +12,8 @@ use Rattle.book_keys.specs.Rows.{Table, has_address}
 use Rattle.book_endpoint.specs.States.{number_limit}
 use Rattle.book_endpoint.specs.Verdicts.{Judgement}
 use Rattle.book_endpoint.specs.declared.refusal.Refusal.TheVariants.{NoAo, TwoAo, WithMd5, NoTuple, Expired, MacLength, NoContext, Range, BadMac}
-use Rattle.book_cmd_show.specs.declared.checksum.Checksum.TheVariants.{Good}
-use Rattle.book_cmd_show.specs.DatagramTexts.{checksum_in}
+use Rattle.book_cmd_check.specs.declared.checksum.Checksum.TheVariants.{Good}
+use Rattle.book_cmd_check.specs.DatagramTexts.{checksum_in}
 use Rattle.book_cmd_check.specs.Captures.{Connection, Heard, Saying, Unreadable, UnknownNode, Judged, TooManyConnections, connection_between, fixed, hear_at, hear_judged, hear_later, hear_syn_ack, is_pass, judge_stored, most_connections, with_connection}
 use Rattle.book_sessions.specs.Glimpses.{is_refused}
 use Rattle.book_sessions.specs.Laps.{Judging, first_from, hear_over, heard_ahead, heard_by, heard_further, is_searched, with_expected}

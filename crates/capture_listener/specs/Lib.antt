@@ -6,3 +6,8 @@ pub mod Listeners
 pub mod Openings
 pub mod Passes
 pub mod Searches
+pub mod Groups
+pub mod Places
+pub mod AtPlaces
+pub mod Gone
+pub mod Known

@@ -4,8 +4,7 @@ ghost use Rattle.book_segments.specs.Options.{find_ao};
 ghost use Rattle.book_sessions.specs.Sessions.{ids_found};
 
 use book_sessions::KeyIds;
-use tcp_options::AoFound;
-use tcp_segment::Datagram;
+use tcp_segment::{AoFound, Datagram};
 
 /// The ids of the one TCP-AO option of a datagram; none where it hasn't one, or not it alone.
 pub fn key_ids(datagram: &Datagram<'_>) -> Option<KeyIds>

@@ -2,3 +2,8 @@ pub mod Showing
 pub mod Taken
 pub mod Parts
 pub mod Telling
+pub mod Calls
+pub mod Exits
+pub mod FrontFinds
+pub mod PartFinds
+pub mod StreamWalking

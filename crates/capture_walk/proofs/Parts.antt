@@ -8,9 +8,9 @@ use Rattle.book_base.specs.Hexadecimal.{IsByte}
 use Rattle.book_captures.specs.declared.capture_parts.CaptureFault.{CaptureFault}
 use Rattle.book_captures.specs.Parts.{PartSaid}
 use Rattle.book_captures.specs.Captures.{CapturePacket}
-use Rattle.capture_stream.specs.declared.reader.CaptureStep.TheVariants as step
-use Rattle.capture_stream.specs.declared.reader.CaptureHalt.TheVariants as stream_halt
-use Rattle.capture_stream.specs.Reads.{Reading, most_buffered, new_reading, ShowsNone, Passes, Steps}
+use Rattle.capture_walk.specs.declared.reader.CaptureStep.TheVariants as step
+use Rattle.capture_walk.specs.declared.reader.CaptureHalt.TheVariants as stream_halt
+use Rattle.capture_walk.specs.Reads.{Reading, most_buffered, new_reading, ShowsNone, Passes, Steps}
 use Rattle.capture_walk.specs.declared.hearer.Heard.{Heard}
 use Rattle.capture_walk.specs.declared.hearer.Heard.TheVariants as heard
 use Rattle.capture_walk.specs.declared.hearer.HearHalt.{HearHalt}
@@ -22,8 +22,8 @@ use Rattle.capture_walk.specs.declared.walking.WalkHalt.TheVariants as halt
 use Rattle.capture_walk.specs.HasRead.{HasRead, listed}
 use Rattle.capture_walk.specs.Hearing.{Adds, Cuts, Hears}
 use Rattle.capture_walk.specs.Walks.{Between, HearsNext, Stops, Walks}
-use Rattle.capture_stream.specs.declared.reader.CaptureStep.{CaptureStep}
-use Rattle.capture_stream.specs.declared.reader.CaptureHalt.{CaptureHalt}
+use Rattle.capture_walk.specs.declared.reader.CaptureStep.{CaptureStep}
+use Rattle.capture_walk.specs.declared.reader.CaptureHalt.{CaptureHalt}
 use Rattle.capture_walk.proofs.Showing.{read_now}
 use Rattle.capture_walk.proofs.Taken.{all_broken, all_ended, bytes_all, gave_all, has_read, no_more, none_shown, rose_read, shows_more, stays_broken, taken_more, taken_none, too_many}
 

@@ -5,7 +5,7 @@ use Rattle.book_captures.specs.declared.capture_parts.CaptureFault.{CaptureFault
 use Rattle.book_captures.specs.declared.capture_parts.Cause.{Cause}
 use Rattle.book_captures.specs.Parts.{PartSaid, Shows, Describes, Neither, OpenedFile, capture_opened}
 use Rattle.book_captures.specs.Captures.{CapturePacket, Capture, PartCounts, with_said, capture_at, capture_behind, capture_of}
-use Rattle.capture_stream.specs.Reads.{Reading, most_ahead, most_buffered, new_reading, to_come, to_come_by, packet_shown, passed_by, ShowsNone, Passes}
+use Rattle.capture_walk.specs.Reads.{Reading, most_ahead, most_buffered, new_reading, to_come, to_come_by, packet_shown, passed_by, ShowsNone, Passes}
 use Rattle.capture_walk.specs.HasRead.{HasRead, HasShown, listed, shown_before}
 
 same_capture : (a b : List CapturePacket) (m n : ℕ) (fault : Option CaptureFault) → a ≡ b → m ≡ n →

@@ -9,9 +9,9 @@ use Rattle.book_base.specs.Hexadecimal.{IsByte}
 use Rattle.book_captures.specs.declared.capture_parts.CaptureFault.{CaptureFault}
 use Rattle.book_captures.specs.Parts.{PartSaid}
 use Rattle.book_captures.specs.Captures.{CapturePacket, capture_of}
-use Rattle.capture_stream.specs.declared.reader.CaptureStep.TheVariants as step
-use Rattle.capture_stream.specs.declared.reader.CaptureHalt.TheVariants as stream_halt
-use Rattle.capture_stream.specs.Reads.{Reading, most_ahead, most_buffered, most_read, new_reading, ShowsNone, Passes, Steps}
+use Rattle.capture_walk.specs.declared.reader.CaptureStep.TheVariants as step
+use Rattle.capture_walk.specs.declared.reader.CaptureHalt.TheVariants as stream_halt
+use Rattle.capture_walk.specs.Reads.{Reading, most_ahead, most_buffered, most_read, new_reading, ShowsNone, Passes, Steps}
 use Rattle.capture_walk.specs.HasRead.{HasRead, HasShown, HasTaken, listed}
 use Rattle.capture_walk.proofs.Showing.{none_listed, read_before, read_now, shown_all, shown_more, shown_none}
 

@@ -5,7 +5,7 @@ use Rattle.std.specs.List.{All}
 use Rattle.ao_base.specs.Outside.{Side, Gave}
 use Rattle.book_base.specs.Hexadecimal.{IsByte}
 use Rattle.book_captures.specs.Captures.{CapturePacket, Capture, capture_of}
-use Rattle.capture_stream.specs.Reads.{Reading, most_ahead, most_buffered, most_read, to_come}
+use Rattle.capture_walk.specs.Reads.{Reading, most_ahead, most_buffered, most_read, to_come}
 
 -- these packets, with so many blocks passed over, in front of others (own)
 abbrev pub shown_before : List CapturePacket → ℕ → Capture → Capture

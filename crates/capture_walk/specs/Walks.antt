@@ -6,7 +6,7 @@ use Rattle.ao_base.specs.Outside.{Side, Gave, WasWritten, Rose, IsAtEnd, told as
 use Rattle.book_base.specs.Hexadecimal.{IsByte}
 use Rattle.book_captures.specs.declared.capture_parts.CaptureFault.{CaptureFault}
 use Rattle.book_captures.specs.Captures.{CapturePacket, capture_of}
-use Rattle.capture_stream.specs.Reads.{Reading, most_buffered, most_read}
+use Rattle.capture_walk.specs.Reads.{Reading, most_buffered, most_read}
 use Rattle.capture_walk.specs.HasRead.{HasRead, HasTaken}
 use Rattle.capture_walk.specs.declared.walking.WalkEnd.{WalkEnd}
 use Rattle.capture_walk.specs.declared.walking.WalkEnd.TheVariants as end

@@ -4,8 +4,8 @@ ghost use Rattle.ao_base.specs.Outside.{Side};
 ghost use Rattle.book_captures.specs.Captures.{CapturePacket};
 ghost use Rattle.capture_walk.specs.Hearing.{Hears, Tells};
 
+use crate::reader::CaptureReader;
 use ao_base::{Failed, Sink, write_all};
-use capture_stream::CaptureReader;
 
 /// What became of a packet that was heard.
 #[derive(Clone, Copy, Debug, PartialEq, Eq)]

@@ -5,8 +5,15 @@
 //! read.
 #![tactic(auto)]
 
+mod fronts;
 mod hearer;
+mod interfaces;
+mod reader;
 mod walking;
 
+pub use capture_reader::{
+    BlockFault, BodyFault, CaptureFault, Cause, Header, PcapHeadFault, RecordFault, Skipped,
+};
 pub use hearer::{HearHalt, Heard, Hearer, tell};
+pub use reader::{CaptureHalt, CaptureReader, CaptureStep};
 pub use walking::{WalkEnd, WalkHalt, hear_next, walk};

@@ -2,12 +2,13 @@
 ghost use Rattle.std.specs.Prelude.{◌≡◌, ◌<◌, ◌≤◌, ℕ, false, List, [], Ok, None};
 ghost use Rattle.ao_base.specs.Outside.{Side};
 ghost use Rattle.book_captures.specs.Captures.{CapturePacket};
-ghost use Rattle.capture_stream.specs.Reads.{most_read, new_reading};
+ghost use Rattle.capture_walk.specs.Reads.{most_read, new_reading};
 ghost use Rattle.capture_walk.specs.Walks.{Between, HearsNext, Walks};
 
 use crate::hearer::{HearHalt, Heard, Hearer};
+use crate::reader::{CaptureHalt, CaptureReader, CaptureStep};
 use ao_base::{Sink, Source};
-use capture_stream::{CaptureFault, CaptureHalt, CaptureReader, CaptureStep};
+use capture_reader::CaptureFault;
 
 /// How a walk ends where nothing failed.
 #[derive(Clone, Copy, Debug, PartialEq, Eq)]

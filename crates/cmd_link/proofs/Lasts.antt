@@ -7,7 +7,7 @@ use Rattle.book_link.specs.declared.event.Event.TheVariants.{At}
 use Rattle.book_link.specs.declared.event.Action.TheVariants.{Send, Deliver}
 use Rattle.book_link.specs.Storm.{last_delivered}
 use Rattle.book_link.specs.Worlds.{Made, Happening, Making, Coming, other, segment_named, segments}
-use Rattle.link_log.specs.Logs.{MadeBy}
+use Rattle.link_report.specs.Logs.{MadeBy}
 
 named_by : (n : ℕ) (k m : Made) (past : List Happening) (b : Bool) → (k.name == n) ≡ b → ((j : Made) → segment_named n past ≡ Some j → j.name ≡ n) →
     (if b then Some k else segment_named n past) ≡ Some m → m.name ≡ n

@@ -2,3 +2,14 @@ pub mod Drawing
 pub mod Lasts
 pub mod PlayLaws
 pub mod ScriptLaws
+pub mod AnswerLaws
+pub mod Expansions
+pub mod LinkLaws
+pub mod RunLaws
+pub mod AddedLaws
+pub mod FollowLaws
+pub mod LineLaws
+pub mod ReadLaws
+pub mod BgpRunLaws
+pub mod TakenLaws
+pub mod TellLaws

@@ -5,8 +5,8 @@ use Rattle.book_keys.specs.Rows.{Row}
 use Rattle.book_lines.specs.Texts.{numbered_text}
 use Rattle.book_cmd_node.specs.declared.node.NodeEvent.{NodeEvent}
 use Rattle.book_cmd_node.specs.NodeRuns.{NodeState, NodeOutcome, most_ends, no_ends, node_step, node_from, outcomes, node_outcomes_from, outcome_lines, node_text, node_texts}
-use Rattle.node_ends.specs.Held.{Holding}
-use Rattle.node_ends.specs.Stands.{HoldsAs}
+use Rattle.stack_ends.specs.Held.{Holding}
+use Rattle.stack_ends.specs.EndsStands.{HoldsAs}
 use Rattle.cmd_node.specs.Nodes.{StandsNode, Reaches}
 use Rattle.cmd_node.specs.Told.{Tells}
 use Rattle.cmd_node.specs.declared.told.Told.{Told}

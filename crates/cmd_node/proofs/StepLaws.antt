@@ -18,20 +18,20 @@ use Rattle.law_node.proofs.Held.{held, once_with, once_without, once_ticked, onc
 use Rattle.tcp_endpoint.specs.declared.endpoint.Endpoint.{Endpoint}
 use Rattle.tcp_endpoint.specs.Arrivals.{Arrives}
 use Rattle.tcp_endpoint.specs.Ends.{FitsEnd, Stands}
-use Rattle.node_ends.specs.declared.answer.NodeArrival.{NodeArrival}
-use Rattle.node_ends.specs.declared.answer.NodeRefusal.{NodeRefusal}
-use Rattle.node_ends.specs.declared.answer.NodeRefusal.TheVariants as refusals
-use Rattle.node_ends.specs.Arrivals.{Comes, ComesTo}
-use Rattle.node_ends.specs.Held.{Holding, end_at, ends, holds, refusal, Adds, Begins, FitsAll, IsRefused, Removes, Ticks}
-use Rattle.node_ends.specs.Loans.{written}
-use Rattle.node_ends.proofs.MapLaws.{written_finds, written_count}
-use Rattle.node_ends.specs.Calls.{act_on}
+use Rattle.stack_ends.specs.declared.answer.NodeArrival.{NodeArrival}
+use Rattle.stack_ends.specs.declared.answer.NodeRefusal.{NodeRefusal}
+use Rattle.stack_ends.specs.declared.answer.NodeRefusal.TheVariants as refusals
+use Rattle.stack_ends.specs.EndsArrivals.{Comes, ComesTo}
+use Rattle.stack_ends.specs.Held.{Holding, end_at, ends, holds, refusal, Adds, Begins, FitsAll, IsRefused, Removes, Ticks}
+use Rattle.stack_ends.specs.Loans.{written}
+use Rattle.stack_ends.proofs.MapLaws.{written_finds, written_count}
+use Rattle.stack_ends.specs.EndsCalls.{act_on}
 use Rattle.cmd_node.specs.Calls.{Follows, HasActed}
-use Rattle.node_ends.specs.Stands.{StandsFor, StandsAt}
+use Rattle.stack_ends.specs.EndsStands.{StandsFor, StandsAt}
 use Rattle.cmd_node.specs.Nodes.{StandsNode, Reaches, IsBegun, called_at, told_of}
 use Rattle.cmd_node.specs.declared.told.Told.{Told}
 use Rattle.cmd_node.specs.declared.told.Told.TheVariants as tells
-use Rattle.node_ends.proofs.HoldLaws.{put_holds, drop_holds, add_holds, tick_holds}
+use Rattle.stack_ends.proofs.HoldLaws.{put_holds, drop_holds, add_holds, tick_holds}
 
 -- an end that stands for nothing, or a state
 at_none : (rows : List Row) (p : Pair) (o : Option Endpoint) (m : Option EndState) → StandsAt rows p o m → o ≡ None → m ≡ None

@@ -13,7 +13,7 @@ use Rattle.tcp_endpoint.specs.declared.emission.Resent.TheVariants as resents
 use Rattle.tcp_endpoint.specs.declared.send.GiveAnswer.{GiveAnswer}
 use Rattle.tcp_endpoint.specs.declared.send.GiveAnswer.TheVariants as given
 use Rattle.tcp_endpoint.specs.Ends.{Stands}
-use Rattle.node_ends.specs.Calls.{act_on}
+use Rattle.stack_ends.specs.EndsCalls.{act_on}
 use Rattle.cmd_node.specs.declared.told.Told.{Told}
 use Rattle.cmd_node.specs.declared.told.Told.TheVariants as tells
 use Rattle.cmd_node.specs.Told.{Tells}

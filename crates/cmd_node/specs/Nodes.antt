@@ -7,13 +7,13 @@ use Rattle.book_endpoint.specs.States.{EndState}
 use Rattle.book_endpoint.specs.declared.arrival.Arrival.TheVariants as answers
 use Rattle.book_cmd_node.specs.declared.node.Act.{Act}
 use Rattle.book_cmd_node.specs.NodeRuns.{NodeState, NodeStep, NoConnection, most_ends, held_end, without_end, stays, after_call}
-use Rattle.node_ends.specs.declared.answer.NodeArrival.{NodeArrival}
-use Rattle.node_ends.specs.declared.answer.NodeArrival.TheVariants as arrivals
-use Rattle.node_ends.specs.declared.answer.NodeRefusal.{NodeRefusal}
-use Rattle.node_ends.specs.declared.answer.NodeRefusal.TheVariants as refusals
-use Rattle.node_ends.specs.Held.{Holding}
-use Rattle.node_ends.specs.Calls.{act_on}
-use Rattle.node_ends.specs.Stands.{HoldsAs}
+use Rattle.stack_ends.specs.declared.answer.NodeArrival.{NodeArrival}
+use Rattle.stack_ends.specs.declared.answer.NodeArrival.TheVariants as arrivals
+use Rattle.stack_ends.specs.declared.answer.NodeRefusal.{NodeRefusal}
+use Rattle.stack_ends.specs.declared.answer.NodeRefusal.TheVariants as refusals
+use Rattle.stack_ends.specs.Held.{Holding}
+use Rattle.stack_ends.specs.EndsCalls.{act_on}
+use Rattle.stack_ends.specs.EndsStands.{HoldsAs}
 use Rattle.cmd_node.specs.declared.told.Told.{Told}
 use Rattle.cmd_node.specs.declared.told.Told.TheVariants as tells
 use Rattle.cmd_node.specs.Told.{Tells}

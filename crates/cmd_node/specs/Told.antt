@@ -1,7 +1,7 @@
 -- What the answers of a run stand for.
 use Rattle.std.specs.Prelude.{◌≡◌, ℕ, List, length, take}
 use Rattle.book_segments.specs.Segments.{spell}
-use Rattle.key_coordination.specs.Sendings.{told}
+use Rattle.ao_check.specs.Sendings.{told}
 use Rattle.book_endpoint.specs.Emissions.{Emission}
 use Rattle.book_cmd_node.specs.NodeRuns as book
 use Rattle.tcp_endpoint.specs.declared.emission.Made.{Made}

@@ -15,7 +15,7 @@ use book_base::Bytes;
 use book_cmd_node::NodeScript;
 use command_report::{Report, Stop};
 use key_table::{Table, Tables};
-use node_ends::Node;
+use stack_ends::Node;
 use std::alloc::{AllocError, Global};
 
 /// How many ends the node of a run holds at most.

@@ -1,7 +1,7 @@
 //! The command `node`: a node's file is read line by line, its events happen at a node with many connections, and
 //! a line is written for each answer. Our own format.
 //!
-//! The node itself stands in `node_ends`.
+//! The node itself stands in `stack_ends`.
 #![tactic(auto)]
 
 mod acts;

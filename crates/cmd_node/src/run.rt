@@ -4,7 +4,7 @@ ghost use Rattle.book_base.specs.declared.address.Pair.{Pair as OnePair};
 ghost use Rattle.book_cmd_node.specs.NodeRuns.{most_ends, no_ends, node_from, node_text};
 ghost use Rattle.law_node.specs.Alone.{Alone};
 ghost use Rattle.cmd_node.specs.Scripts.{IsScript};
-ghost use Rattle.node_ends.specs.Stands.{HoldsAs};
+ghost use Rattle.stack_ends.specs.EndsStands.{HoldsAs};
 
 use crate::events::step;
 use crate::lines::push_told;
@@ -13,7 +13,7 @@ use book_base::Bytes;
 use book_cmd_node::NodeScript;
 use key_table::Table;
 use law_node::each_is_alone;
-use node_ends::Node;
+use stack_ends::Node;
 use std::alloc::{AllocError, Global};
 use std::marker::Brand;
 use std::sync::ledger::{Blank, Ledger};

@@ -1,3 +1,8 @@
 pub mod SignedLaws
 pub mod TextLaws
 pub mod VerifyLaws
+mod JudgedLaws
+mod JudgementLaws
+mod KeyLaws
+pub mod LintLaws
+mod HearingLaws

@@ -9,7 +9,7 @@ use Rattle.book_segments.specs.Options.{Ao, One, find_ao}
 use Rattle.book_segments.specs.Segments.{Segment, Read, reading, two_octets_at, four_octets_at}
 use Rattle.book_segments.specs.Spelling.{AreBytes}
 use Rattle.book_segments.proofs.ByteLaws.{front_list, in_front, put_two, put_four}
-use Rattle.book_cmd_show.specs.Vectors.{signed_of}
+use Rattle.book_cmd_check.specs.Vectors.{signed_of}
 
 pub signed_so : (algorithm : Algorithm) (bytes : List ℕ) (d : Segment) (ao : Ao) → reading bytes ≡ Read d → find_ao d.area ≡ One ao → length ao.mac ≡ mac_length_of algorithm →
     signed_of algorithm bytes ≡ Some (record { segment = d; ao = ao })

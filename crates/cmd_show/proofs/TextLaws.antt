@@ -10,9 +10,9 @@ use Rattle.book_base.specs.Results.{◌>>=◌}
 use Rattle.book_lines.specs.Said.{Said, at_number, said_by}
 use Rattle.text_lines.specs.Readings.{Fails}
 use Rattle.cmd_show.specs.Loops.{shown_from}
-use Rattle.book_cmd_show.specs.Show.{bytes_of_line, shown_line}
+use Rattle.book_cmd_check.specs.Show.{bytes_of_line, shown_line}
 use Rattle.book_lines.specs.Texts.{spaced}
-use Rattle.book_cmd_show.specs.DatagramTexts.{option_text}
+use Rattle.book_cmd_check.specs.DatagramTexts.{option_text}
 use Rattle.text_lines.proofs.SaidLaws.{said_few, same_fault}
 
 pub one_more_option : (before after all : List ℕ) (o : Plain) (options rest : List Plain) → options ≡ o ∷ rest →

@@ -11,8 +11,8 @@ use Rattle.book_base.specs.Results.{◌>>=◌}
 use Rattle.book_lines.specs.Said.{Said, at_number, said_by}
 use Rattle.text_lines.specs.Readings.{Fails}
 use Rattle.cmd_show.specs.Loops.{Sums, sums_from}
-use Rattle.book_cmd_show.specs.Vectors.{Vector, vector_of}
-use Rattle.book_cmd_show.specs.Verified.{agrees, differs, verdict_line}
+use Rattle.book_cmd_check.specs.Vectors.{Vector, vector_of}
+use Rattle.book_cmd_check.specs.Verified.{agrees, differs, verdict_line}
 use Rattle.text_lines.proofs.SaidLaws.{said_few, same_fault}
 
 same_sums : (t u : List ℕ) (c d x y : ℕ) → t ≡ u → c ≡ d → x ≡ y → ◌≡◌ {A = Result Sums TextFault} (Ok (record { text = t; count = c; differing = x })) (Ok (record { text = u; count = d; differing = y }))

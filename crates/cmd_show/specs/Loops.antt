@@ -4,9 +4,9 @@ use Rattle.std.specs.List.{flat_map}
 use Rattle.book_lines.specs.declared.text_fault.TextFault.{TextFault}
 use Rattle.book_lines.specs.Said.{Said}
 use Rattle.cmd_show.specs.declared.vector_lines.Totals.{Totals}
-use Rattle.book_cmd_show.specs.Show.{shown_line}
-use Rattle.book_cmd_show.specs.Vectors.{Vector}
-use Rattle.book_cmd_show.specs.Verified.{differs, verdict_line}
+use Rattle.book_cmd_check.specs.Show.{shown_line}
+use Rattle.book_cmd_check.specs.Vectors.{Vector}
+use Rattle.book_cmd_check.specs.Verified.{differs, verdict_line}
 
 -- the text so far, and then the lines that are said
 abbrev pub shown_from : List ℕ → Result (List (Said (List ℕ))) TextFault → Result (List ℕ) TextFault

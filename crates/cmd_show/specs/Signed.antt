@@ -6,7 +6,7 @@ use Rattle.book_segments.specs.Segments.{Segment}
 use Rattle.text_lines.specs.declared.word_problem.WordProblem.{WordProblem}
 use Rattle.text_lines.specs.declared.word_problem.WordProblem.TheVariants as refusal
 use Rattle.cmd_show.specs.declared.signed.SignedDatagram.{SignedDatagram}
-use Rattle.book_cmd_show.specs.Vectors.{MacMaking, Vector, mac_of_signed, signed_of}
+use Rattle.book_cmd_check.specs.Vectors.{MacMaking, Vector, mac_of_signed, signed_of}
 
 -- a datagram that was found with its MAC
 pub record IsSigned (algorithm : Algorithm) (bytes : List ℕ) (s : SignedDatagram) : Type 0 where

@@ -3,18 +3,17 @@ ghost use Rattle.std.specs.Prelude.{◌≡◌, ◌++◌, ◌∷◌, [], OnOk, If
 ghost use Rattle.book_base.specs.Hexadecimal.{hex_of};
 ghost use Rattle.book_segments.specs.Options.{plains, listed, options_of};
 ghost use Rattle.book_segments.specs.Segments.{reading};
-ghost use Rattle.tcp_options.specs.Views.{view_opt};
+ghost use Rattle.tcp_segment.specs.Views.{view_opt};
 ghost use Rattle.book_lines.specs.Texts.{socket_texts, spaced};
-ghost use Rattle.book_cmd_show.specs.DatagramTexts.{datagram_texts, family_text, number_texts, option_text};
-ghost use Rattle.book_cmd_show.specs.DatagramTexts.{options_texts, rest_texts};
-ghost use Rattle.book_cmd_show.specs.Show.{reading_texts};
+ghost use Rattle.book_cmd_check.specs.DatagramTexts.{datagram_texts, family_text, number_texts, option_text};
+ghost use Rattle.book_cmd_check.specs.DatagramTexts.{options_texts, rest_texts};
+ghost use Rattle.book_cmd_check.specs.Show.{reading_texts};
 
 use ao_base::{push_decimal, push_hex};
 use book_base::Address;
 use segment_words::{checksum_in, push_checksum, push_fault};
 use std::alloc::{AllocError, Global};
-use tcp_options::{Opt, OptionIter};
-use tcp_segment::{Datagram, read_datagram};
+use tcp_segment::{Datagram, Opt, OptionIter, read_datagram};
 use text_lines::{push_bytes, push_field, push_socket, push_text};
 
 fn family(address: &Address) -> &[u8]
@@ -96,7 +95,7 @@ fn push_rest(out: &mut Vec<u8>, datagram: &Datagram<'_>) -> Result<(), AllocErro
 }
 
 /// The fields of a datagram.
-#[tactic(auto, unfolding(book_cmd_show::specs::DatagramTexts::datagram_texts))]
+#[tactic(auto, unfolding(book_cmd_check::specs::DatagramTexts::datagram_texts))]
 fn push_datagram(
     alloc: Global,
     out: &mut Vec<u8>,

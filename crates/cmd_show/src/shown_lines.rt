@@ -7,7 +7,7 @@ ghost use Rattle.text_lines.specs.Readings.{Answers, Tells};
 ghost use Rattle.book_answer.specs.Answers.{done, if_read};
 ghost use Rattle.command_report.specs.Reports.{Reports};
 ghost use Rattle.cmd_show.specs.Loops.{shown_after, shown_from};
-ghost use Rattle.book_cmd_show.specs.Show.{bytes_of_line, show_of, shown_line};
+ghost use Rattle.book_cmd_check.specs.Show.{bytes_of_line, show_of, shown_line};
 
 use crate::datagram_text::push_reading;
 use ao_base::push_decimal;
@@ -17,7 +17,7 @@ use command_report::{Report, Stop};
 use std::alloc::{AllocError, Global};
 use text_lines::{LineWords, Saying, SayingLines, WordProblem, count_lines, push_newline};
 
-#[tactic(auto, unfolding(book_cmd_show::specs::Show::bytes_of_line))]
+#[tactic(auto, unfolding(book_cmd_check::specs::Show::bytes_of_line))]
 fn line_bytes(alloc: Global, words: &mut LineWords) -> Result<Bytes, WordProblem>
     ensures { Tells result (bytes_of_line words.old) }
 {
@@ -32,7 +32,7 @@ fn bytes_in(alloc: Global, mut line: Saying) -> Result<Bytes, TextFault>
     line_bytes(alloc, &mut line.words).map_err(|refusal| refusal.at(line.number))
 }
 
-#[tactic(auto, unfolding(book_cmd_show::specs::Show::shown_line))]
+#[tactic(auto, unfolding(book_cmd_check::specs::Show::shown_line))]
 fn push_shown(alloc: Global, out: &mut Vec<u8>, number: u32, bytes: &[u8]) -> Result<(), AllocError>
     ensures { OnOk result (out.new.items ≡ out.old.items ++ shown_line
         (record { number = number; value = bytes.now })) }
@@ -62,7 +62,7 @@ fn push_lines(alloc: Global, out: &mut Vec<u8>, lines: &mut SayingLines) -> Resu
 /// `Ok` exactly where each line that says something is hexadecimal. `TooManyLines` exactly where the
 /// text has more than 20,000 lines; else `Line` is the first faulty line, counted from 1 among all
 /// lines, with the kind of its first faulty word. `Memory` only for want of memory.
-#[tactic(auto, unfolding(book_cmd_show::specs::Show::show_of, book_lines::specs::Said::said_in))]
+#[tactic(auto, unfolding(book_cmd_check::specs::Show::show_of, book_lines::specs::Said::said_in))]
 pub(crate) fn show(alloc: Global, text: &[u8]) -> Result<Bytes, TextFault>
     ensures text { Answers result (show_of text.now) }
     ensures too_many { IsErrOf result TextFault.TooManyLines ↔ (most_lines < length (lines_of text.now)) }

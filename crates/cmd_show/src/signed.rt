@@ -3,15 +3,14 @@ ghost use Rattle.std.specs.Prelude.{◌≡◌, ◌≤◌, ℕ, List, length, Som
 ghost use Rattle.book_segments.specs.Options.{Ao, One, find_ao};
 ghost use Rattle.ao_mac.specs.Macs.{HasAo};
 ghost use Rattle.cmd_show.specs.Signed.{IsMade, IsSigned};
-ghost use Rattle.book_cmd_show.specs.Vectors.{signed_of};
+ghost use Rattle.book_cmd_check.specs.Vectors.{signed_of};
 
 use crate::keys::key_of;
 use ao_kdf::Context;
 use ao_mac::{MacBytes, mac};
 use book_base::Algorithm;
 use std::marker::Model;
-use tcp_options::AoFound;
-use tcp_segment::{Datagram, read_datagram};
+use tcp_segment::{AoFound, Datagram, read_datagram};
 
 /// A datagram with one TCP-AO option, and the MAC in it.
 #[derive(Drop)]
@@ -32,7 +31,7 @@ pub(crate) struct Making {
 }
 
 impl Model for Making {
-    ghost use Rattle.book_cmd_show.specs.Vectors.{MacMaking as Made};
+    ghost use Rattle.book_cmd_check.specs.Vectors.{MacMaking as Made};
 
     ghost Value = { Made };
 
@@ -47,7 +46,7 @@ impl Model for Making {
 
 /// The datagram that a prefix of the bytes is, where it has one TCP-AO option with a MAC of the
 /// algorithm's length and none of TCP MD5.
-#[tactic(auto, unfolding(book_cmd_show::specs::Vectors::signed_of))]
+#[tactic(auto, unfolding(book_cmd_check::specs::Vectors::signed_of))]
 pub(crate) fn signed(algorithm: Algorithm, bytes: &[u8]) -> Option<SignedDatagram<'_>>
     ensures { MatchOption result (signed_of algorithm bytes.now ≡ None) (λ s. IsSigned algorithm bytes.now s) }
 {

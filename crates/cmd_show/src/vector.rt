@@ -7,17 +7,16 @@ ghost use Rattle.book_macs.specs.Hmac.{hmac};
 ghost use Rattle.ao_mac.specs.Macs.{HasAo};
 ghost use Rattle.text_lines.specs.Readings.{Tells, gives};
 ghost use Rattle.cmd_show.specs.Signed.{IsMadeVector};
-ghost use Rattle.book_cmd_show.specs.Vectors.{aes_vector, cmac_vector, kdf_vector, keyed_of, keyed_vector};
-ghost use Rattle.book_cmd_show.specs.Vectors.{making_in, segment_vector, vector_named, vector_of};
+ghost use Rattle.book_cmd_check.specs.Vectors.{aes_vector, cmac_vector, kdf_vector, keyed_of, keyed_vector};
+ghost use Rattle.book_cmd_check.specs.Vectors.{making_in, segment_vector, vector_named, vector_of};
 
 use crate::keys::{key_of, read_context};
 use crate::signed::{Making, SignedDatagram, mac_of, signed};
 use crate::vector_words::{block, context, covering, message};
-use aes_cmac::{Aes128, Cmac, prf};
+use ao_kdf::{Aes128, Cmac, HmacSha1, HmacSha256, prf};
 use book_base::{Algorithm, Bytes};
 use book_keys::LONGEST_MASTER_KEY;
 use book_lines::LineKind;
-use hmac_sha1::{HmacSha1, HmacSha256};
 use std::alloc::Global;
 use std::marker::Model;
 use text_lines::{LineWords, WordProblem};
@@ -30,7 +29,7 @@ pub(crate) struct Vector {
 }
 
 impl Model for Vector {
-    ghost use Rattle.book_cmd_show.specs.Vectors.{Vector as Two};
+    ghost use Rattle.book_cmd_check.specs.Vectors.{Vector as Two};
 
     ghost Value = { Two };
 
@@ -55,7 +54,7 @@ struct Keyed {
 }
 
 impl Model for Keyed {
-    ghost use Rattle.book_cmd_show.specs.Vectors.{Keyed as Three};
+    ghost use Rattle.book_cmd_check.specs.Vectors.{Keyed as Three};
 
     ghost Value = { Three };
 
@@ -63,7 +62,7 @@ impl Model for Keyed {
 }
 
 impl Keyed {
-    #[tactic(auto, unfolding(book_cmd_show::specs::Vectors::keyed_of))]
+    #[tactic(auto, unfolding(book_cmd_check::specs::Vectors::keyed_of))]
     fn read(alloc: Global, words: &mut LineWords) -> Result<Keyed, WordProblem>
         ensures { Tells result (keyed_of words.old) }
     {
@@ -133,7 +132,7 @@ fn prf_vector(alloc: Global, words: &mut LineWords) -> Result<Vector, WordProble
     Vector::new(alloc, &computed, keyed.expected)
 }
 
-#[tactic(auto, unfolding(book_cmd_show::specs::Vectors::cmac_vector))]
+#[tactic(auto, unfolding(book_cmd_check::specs::Vectors::cmac_vector))]
 fn cmac_vector(alloc: Global, words: &mut LineWords) -> Result<Vector, WordProblem>
     ensures { Tells result (cmac_vector words.old) }
 {
@@ -144,7 +143,7 @@ fn cmac_vector(alloc: Global, words: &mut LineWords) -> Result<Vector, WordProbl
     Vector::new(alloc, &cmac_of(&key, message.as_slice()), expected)
 }
 
-#[tactic(auto, unfolding(book_cmd_show::specs::Vectors::aes_vector))]
+#[tactic(auto, unfolding(book_cmd_check::specs::Vectors::aes_vector))]
 fn aes_vector(alloc: Global, words: &mut LineWords) -> Result<Vector, WordProblem>
     ensures { Tells result (aes_vector words.old) }
 {
@@ -155,7 +154,7 @@ fn aes_vector(alloc: Global, words: &mut LineWords) -> Result<Vector, WordProble
     Vector::new(alloc, &aes_of(&key, &plain), expected)
 }
 
-#[tactic(auto, unfolding(book_cmd_show::specs::Vectors::kdf_vector))]
+#[tactic(auto, unfolding(book_cmd_check::specs::Vectors::kdf_vector))]
 fn kdf_vector(alloc: Global, words: &mut LineWords) -> Result<Vector, WordProblem>
     ensures { Tells result (kdf_vector words.old) }
 {
@@ -183,7 +182,7 @@ fn vector_made(
     Vector::new(alloc, made.as_slice(), expected)
 }
 
-#[tactic(auto, unfolding(book_cmd_show::specs::Vectors::making_in))]
+#[tactic(auto, unfolding(book_cmd_check::specs::Vectors::making_in))]
 fn making(words: &mut LineWords, algorithm: Algorithm) -> Result<Making, LineKind>
     ensures { gives result words.new ≡ making_in algorithm words.old }
 {
@@ -200,7 +199,7 @@ fn making(words: &mut LineWords, algorithm: Algorithm) -> Result<Making, LineKin
     })
 }
 
-#[tactic(auto, unfolding(book_cmd_show::specs::Vectors::segment_vector))]
+#[tactic(auto, unfolding(book_cmd_check::specs::Vectors::segment_vector))]
 fn segment_vector(alloc: Global, words: &mut LineWords) -> Result<Vector, WordProblem>
     ensures { Tells result (segment_vector words.old) }
 {
@@ -215,7 +214,7 @@ fn segment_vector(alloc: Global, words: &mut LineWords) -> Result<Vector, WordPr
     vector_made(alloc, master.as_slice(), &making, &signed)
 }
 
-#[tactic(auto, unfolding(book_cmd_show::specs::Vectors::vector_named))]
+#[tactic(auto, unfolding(book_cmd_check::specs::Vectors::vector_named))]
 fn vector_named(alloc: Global, name: &[u8], words: &mut LineWords) -> Result<Vector, WordProblem>
     ensures { Tells result (vector_named name.now words.old) }
 {
@@ -239,7 +238,7 @@ fn vector_named(alloc: Global, name: &[u8], words: &mut LineWords) -> Result<Vec
 }
 
 /// The vector that a line says.
-#[tactic(auto, unfolding(book_cmd_show::specs::Vectors::vector_of))]
+#[tactic(auto, unfolding(book_cmd_check::specs::Vectors::vector_of))]
 pub(crate) fn read_vector(alloc: Global, words: &mut LineWords) -> Result<Vector, WordProblem>
     ensures { Tells result (vector_of words.old) }
 {

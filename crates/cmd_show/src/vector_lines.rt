@@ -8,13 +8,13 @@ ghost use Rattle.text_lines.specs.Readings.{Answers};
 ghost use Rattle.book_answer.specs.Answers.{if_read, verified};
 ghost use Rattle.command_report.specs.Reports.{Reports};
 ghost use Rattle.cmd_show.specs.Loops.{no_sums, sums_after, sums_from};
-ghost use Rattle.book_cmd_show.specs.Vectors.{vector_of};
-ghost use Rattle.book_cmd_show.specs.Verified.{agrees, totals_line, vectors_of, verdict_line, verdict_texts};
+ghost use Rattle.book_cmd_check.specs.Vectors.{vector_of};
+ghost use Rattle.book_cmd_check.specs.Verified.{agrees, totals_line, vectors_of, verdict_line, verdict_texts};
 
 use crate::vector::{Vector, read_vector};
 use ao_base::push_decimal;
 use book_base::Bytes;
-use book_cmd_show::Verified;
+use book_cmd_check::Verified;
 use book_lines::TextFault;
 use command_report::{Report, Stop};
 use std::alloc::{AllocError, Global};
@@ -52,7 +52,7 @@ fn push_verdict(out: &mut Vec<u8>, vector: &Vector) -> Result<(), AllocError>
     }
 }
 
-#[tactic(auto, unfolding(book_cmd_show::specs::Verified::verdict_line))]
+#[tactic(auto, unfolding(book_cmd_check::specs::Verified::verdict_line))]
 fn push_line(out: &mut Vec<u8>, number: u32, vector: &Vector) -> Result<(), AllocError>
     ensures { OnOk result (out.new.items ≡ out.old.items ++ verdict_line
         (record { number = number; value = vector.now })) }
@@ -122,7 +122,7 @@ fn one_more(totals: Totals, vector: &Vector) -> Totals
 /// `Ok` exactly where the text is in the grammar. `TooManyLines` exactly where it has more than
 /// 20,000 lines; else `Line` is the first faulty line, counted from 1 among all lines, with the kind
 /// of its first faulty word. `Memory` only for want of memory.
-#[tactic(auto, unfolding(book_cmd_show::specs::Verified::vectors_of, book_lines::specs::Said::said_in))]
+#[tactic(auto, unfolding(book_cmd_check::specs::Verified::vectors_of, book_lines::specs::Said::said_in))]
 pub(crate) fn vectors(alloc: Global, text: &[u8]) -> Result<Verified, TextFault>
     ensures text { Answers result (vectors_of text.now) }
     ensures too_many { IsErrOf result TextFault.TooManyLines ↔ (most_lines < length (lines_of text.now)) }

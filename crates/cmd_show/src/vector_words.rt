@@ -2,7 +2,7 @@
 ghost use Rattle.std.specs.Prelude.{◌≡◌, ◌⊎◌, length, IfOk};
 ghost use Rattle.book_lines.specs.Words.{sized_hex_in};
 ghost use Rattle.text_lines.specs.Readings.{gives, Tells};
-ghost use Rattle.book_cmd_show.specs.VectorWords.{message_in, context_in, covering_in};
+ghost use Rattle.book_cmd_check.specs.VectorWords.{message_in, context_in, covering_in};
 
 use crate::array::array_of;
 use book_base::Bytes;
@@ -19,7 +19,7 @@ pub(crate) fn block(alloc: Global, words: &mut LineWords) -> Result<[u8; 16], Wo
 }
 
 /// A message in hexadecimal, or `-` for the empty one.
-#[tactic(auto, unfolding(book_cmd_show::specs::VectorWords::message_in, book_lines::specs::Words::word_in, book_lines::specs::Words::hex_in))]
+#[tactic(auto, unfolding(book_cmd_check::specs::VectorWords::message_in, book_lines::specs::Words::word_in, book_lines::specs::Words::hex_in))]
 pub(crate) fn message(alloc: Global, words: &mut LineWords) -> Result<Bytes, WordProblem>
     ensures { Tells (gives result words.new) (message_in words.old) }
 {
@@ -32,7 +32,7 @@ pub(crate) fn message(alloc: Global, words: &mut LineWords) -> Result<Bytes, Wor
 }
 
 /// The bytes of a context in hexadecimal.
-#[tactic(auto, unfolding(book_cmd_show::specs::VectorWords::context_in))]
+#[tactic(auto, unfolding(book_cmd_check::specs::VectorWords::context_in))]
 pub(crate) fn context(alloc: Global, words: &mut LineWords) -> Result<Bytes, WordProblem>
     ensures read { Tells (gives result words.new) (context_in words.old) }
     ensures length { IfOk result (λ bytes. (length bytes ≡ 20) ⊎ (length bytes ≡ 44)) }

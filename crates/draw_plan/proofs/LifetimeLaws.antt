@@ -6,12 +6,12 @@ use Rattle.book_base.specs.declared.address.Pair.{Pair}
 use Rattle.book_keys.specs.declared.lifetime.Lifetime.{Lifetime}
 use Rattle.book_keys.specs.Lifetimes.{contains}
 use Rattle.book_keys.specs.Rows.{Row, matches, receives, sends}
-use Rattle.book_draw_plan.specs.declared.duty.Duty.TheVariants.{Accepts, Sends}
-use Rattle.book_draw_plan.specs.declared.duty.Filling.TheVariants.{Never}
-use Rattle.book_draw_plan.specs.declared.slice.Slice.{Slice}
-use Rattle.book_draw_plan.specs.BarOrders.{row_filling}
-use Rattle.book_draw_plan.specs.Slices.{all_pass, filled_by, filling}
-use Rattle.book_draw_plan.proofs.FillingLaws.{all_true, any_false, not_all, not_none, never_exactly}
+use Rattle.book_scope_plan.specs.declared.duty.Duty.TheVariants.{Accepts, Sends}
+use Rattle.book_scope_plan.specs.declared.duty.Filling.TheVariants.{Never}
+use Rattle.book_scope_plan.specs.declared.slice.Slice.{Slice}
+use Rattle.book_scope_plan.specs.BarOrders.{row_filling}
+use Rattle.book_scope_plan.specs.Slices.{all_pass, filled_by, filling}
+use Rattle.book_scope_plan.proofs.FillingLaws.{all_true, any_false, not_all, not_none, never_exactly}
 use Rattle.draw_plan.specs.Lifetimes.{covers, overlaps}
 
 inside : (l : Lifetime) (t : ℕ) → l.first ≤ t → t ≤ l.last → contains l t ≡ true

@@ -2,8 +2,8 @@
 use Rattle.std.proofs.Common.{◌≡◌, ℕ, suc, ◌+◌, ◌-◌, ◌<◌, ◌≤◌, nat_lt, true, false, List, [], ◌∷◌, ◌++◌, refl, sym, ap, ◌∙◌, arith, append_assoc}
 use Rattle.std.proofs.lemmas.Bool.Decides.{nat_tests}
 use Rattle.std.proofs.lemmas.List.{append-nil}
-use Rattle.book_draw_plan.specs.declared.slice.Slice.{Slice}
-use Rattle.book_draw_plan.specs.Slices.{slice_between, slices_from}
+use Rattle.book_scope_plan.specs.declared.slice.Slice.{Slice}
+use Rattle.book_scope_plan.specs.Slices.{slice_between, slices_from}
 
 short : (width n time more : ℕ) → more < width → slices_from width (suc n) time more ≡ slice_between time (time + more) ∷ []
 short width n time more h = let is : nat_lt more width ≡ true = grind (arith, nat_tests) in rw is refl

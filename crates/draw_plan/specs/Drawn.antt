@@ -1,6 +1,6 @@
 -- What is drawn, as the book has it.
-use Rattle.book_draw_plan.specs.BarOrders as orders
-use Rattle.book_draw_plan.specs.Bars as book
+use Rattle.book_scope_plan.specs.BarOrders as orders
+use Rattle.book_scope_plan.specs.Bars as book
 use Rattle.draw_plan.specs.declared.order.OneWay.{OneWay}
 use Rattle.draw_plan.specs.declared.shown.ShownBar.{ShownBar}
 

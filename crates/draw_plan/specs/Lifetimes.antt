@@ -1,6 +1,6 @@
 -- What a lifetime and a slice have in common.
 use Rattle.std.specs.Prelude.{◌&&◌, max, min, nat_le, Bool}
-use Rattle.book_draw_plan.specs.declared.slice.Slice.{Slice}
+use Rattle.book_scope_plan.specs.declared.slice.Slice.{Slice}
 use Rattle.book_keys.specs.declared.lifetime.Lifetime.{Lifetime}
 
 -- the lifetime and the slice have a time in common

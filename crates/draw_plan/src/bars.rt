@@ -1,8 +1,8 @@
 //! The lines of bars.
 ghost use Rattle.std.specs.Prelude.{◌≡◌, ◌++◌, OnOk, flat_map, option_map};
-ghost use Rattle.book_draw_plan.specs.Bars.{bar_byte, bar_bytes, bar_label, bar_text, duty_id, duty_text};
-ghost use Rattle.book_draw_plan.specs.Bars.{duty_words, filling_byte, drawn_bar};
-ghost use Rattle.book_draw_plan.specs.Slices.{slices_of};
+ghost use Rattle.book_scope_plan.specs.Bars.{bar_byte, bar_bytes, bar_label, bar_text, duty_id, duty_text};
+ghost use Rattle.book_scope_plan.specs.Bars.{duty_words, filling_byte, drawn_bar};
+ghost use Rattle.book_scope_plan.specs.Slices.{slices_of};
 ghost use Rattle.draw_plan.specs.Drawn.{shown_of};
 
 use crate::fillings::row_filling;
@@ -11,8 +11,8 @@ use crate::shown::ShownBar;
 use crate::wrong::Connected;
 use ao_base::push_decimal;
 use book_base::Pair;
-use book_draw_plan::{Bar, Duty, Filling, Slice};
 use book_keys::Plan;
+use book_scope_plan::{Bar, Duty, Filling, Slice};
 use key_table::Row;
 use std::alloc::AllocError;
 
@@ -76,7 +76,7 @@ fn duty_words(duty: Duty) -> &'static [u8]
 }
 
 /// Puts what a row does behind `out`, with the KeyID under which it does. An error only when out of memory.
-#[tactic(auto, unfolding(book_draw_plan::specs::Bars::duty_text))]
+#[tactic(auto, unfolding(book_scope_plan::specs::Bars::duty_text))]
 pub fn push_duty(out: &mut Vec<u8>, duty: Duty, row: &Row) -> Result<(), AllocError>
     ensures { OnOk result (out.new.items ≡ out.old.items ++ duty_text duty row.now) }
 {
@@ -86,7 +86,7 @@ pub fn push_duty(out: &mut Vec<u8>, duty: Duty, row: &Row) -> Result<(), AllocEr
 }
 
 /// What stands beside the bar of a row.
-#[tactic(auto, unfolding(book_draw_plan::specs::Bars::bar_label))]
+#[tactic(auto, unfolding(book_scope_plan::specs::Bars::bar_label))]
 fn push_label(
     out: &mut Vec<u8>,
     name: &[u8],
@@ -103,7 +103,7 @@ fn push_label(
 }
 
 /// The line of a bar over these slices.
-#[tactic(auto, unfolding(book_draw_plan::specs::Bars::bar_line))]
+#[tactic(auto, unfolding(book_scope_plan::specs::Bars::bar_line))]
 fn push_shown(out: &mut Vec<u8>, slices: &[Slice], bar: Option<ShownBar>) -> Result<(), AllocError>
     ensures { OnOk result (out.new.items ≡ out.old.items ++ drawn_bar slices.now (option_map shown_of bar.entry)) }
 {

@@ -1,12 +1,12 @@
 //! How a row fills a slice, by the first and the last second of its lifetimes.
 ghost use Rattle.std.specs.Prelude.{◌≡◌};
-ghost use Rattle.book_draw_plan.specs.declared.duty.Duty.TheVariants.{Accepts as accepts, Sends as sends_out};
-ghost use Rattle.book_draw_plan.specs.BarOrders.{is_filled, row_filling};
-ghost use Rattle.book_draw_plan.specs.Slices.{filled_by};
+ghost use Rattle.book_scope_plan.specs.declared.duty.Duty.TheVariants.{Accepts as accepts, Sends as sends_out};
+ghost use Rattle.book_scope_plan.specs.BarOrders.{is_filled, row_filling};
+ghost use Rattle.book_scope_plan.specs.Slices.{filled_by};
 ghost use Rattle.draw_plan.specs.Lifetimes.{covers, overlaps};
 
 use book_base::Pair;
-use book_draw_plan::{Duty, Filling, Slice};
+use book_scope_plan::{Duty, Filling, Slice};
 use key_table::{Lifetime, Row};
 
 fn filled_by(some: bool, all: bool) -> Filling

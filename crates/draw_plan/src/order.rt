@@ -1,19 +1,19 @@
 //! The bars of a connection, in order.
 ghost use Rattle.std.specs.Prelude.{◌≡◌, ◌++◌, ◌≤◌, IfOk, OnOk, length};
 ghost use Rattle.std.specs.List.{list_any};
-ghost use Rattle.book_draw_plan.specs.BarOrders.{accept_bars, accepts_alone, accepts_under, all_sending_bars};
-ghost use Rattle.book_draw_plan.specs.BarOrders.{bar_if, bars_of, bars_of_way, is_doing_in, plan_time, sending_bars};
-ghost use Rattle.book_draw_plan.specs.BarOrders.{sends_under};
+ghost use Rattle.book_scope_plan.specs.BarOrders.{accept_bars, accepts_alone, accepts_under, all_sending_bars};
+ghost use Rattle.book_scope_plan.specs.BarOrders.{bar_if, bars_of, bars_of_way, is_doing_in, plan_time, sending_bars};
+ghost use Rattle.book_scope_plan.specs.BarOrders.{sends_under};
 ghost use Rattle.book_keys.specs.Rows.{row_limit};
 ghost use Rattle.book_scope_plan.specs.CalendarTexts.{side_of};
-ghost use Rattle.book_draw_plan.specs.declared.duty.Duty.TheVariants.{Accepts as accepts};
+ghost use Rattle.book_scope_plan.specs.declared.duty.Duty.TheVariants.{Accepts as accepts};
 ghost use Rattle.book_base.specs.declared.end.End.TheVariants.{A as a_end, B as b_end};
 ghost use Rattle.draw_plan.specs.Drawn.{way_of};
 
 use crate::fillings::{is_filled, row_filling};
 use book_base::{End, Pair};
-use book_draw_plan::{Bar, Duty, Slice};
 use book_keys::Plan;
+use book_scope_plan::{Bar, Duty, Slice};
 use key_table::{Row, Table, mirrored};
 use std::alloc::{AllocError, Global};
 
@@ -166,7 +166,7 @@ pub fn plan_time(plan: &Plan) -> Slice
 }
 
 /// The bars of a connection: what A sends to B, and what B sends to A.
-#[tactic(auto, unfolding(book_draw_plan::specs::BarOrders::bars_of))]
+#[tactic(auto, unfolding(book_scope_plan::specs::BarOrders::bars_of))]
 fn both_ways(
     alloc: Global,
     a: &Table,

@@ -1,17 +1,17 @@
 //! The bars of a connection.
 ghost use Rattle.std.specs.Prelude.{◌≡◌, ◌++◌, OnOk, codes, decimal};
-ghost use Rattle.book_draw_plan.specs.Bars.{bar_line, both_bars, scale_line, scale_words, summary_line};
-ghost use Rattle.book_draw_plan.specs.Bars.{summary_words, wrong_bytes, wrong_text};
-ghost use Rattle.book_draw_plan.specs.Slices.{slices_of};
+ghost use Rattle.book_scope_plan.specs.Bars.{bar_line, both_bars, scale_line, scale_words, summary_line};
+ghost use Rattle.book_scope_plan.specs.Bars.{summary_words, wrong_bytes, wrong_text};
+ghost use Rattle.book_scope_plan.specs.Slices.{slices_of};
 
 use crate::bars::push_bar_lines;
 use crate::order::bars_of;
 use crate::slices::{slice_width, slices_of};
 use crate::wrong::{Connected, push_wrong_bytes};
 use ao_base::push_decimal;
-use book_draw_plan::Slice;
 use book_keys::Plan;
 use book_plans::Finding;
+use book_scope_plan::Slice;
 use plan_texts::push_times;
 use std::alloc::{AllocError, Global};
 
@@ -27,7 +27,7 @@ fn push_scale_words(out: &mut Vec<u8>, plan: &Plan) -> Result<(), AllocError>
 }
 
 /// The line that says so.
-#[tactic(auto, unfolding(book_draw_plan::specs::Bars::scale_line))]
+#[tactic(auto, unfolding(book_scope_plan::specs::Bars::scale_line))]
 fn push_scale(out: &mut Vec<u8>, plan: &Plan) -> Result<(), AllocError>
     ensures { OnOk result (out.new.items ≡ out.old.items ++ scale_line plan.now) }
 {
@@ -47,7 +47,7 @@ fn push_count(out: &mut Vec<u8>, number: u32, words: &[u8]) -> Result<(), AllocE
 
 /// Puts behind `out` how many connections there are, and how many are wrong, where with `good` nothing is. An error
 /// only when out of memory.
-#[tactic(auto, unfolding(book_draw_plan::specs::Bars::summary_words))]
+#[tactic(auto, unfolding(book_scope_plan::specs::Bars::summary_words))]
 pub fn push_summary_words(out: &mut Vec<u8>, all: u32, good: u32) -> Result<(), AllocError>
     ensures { OnOk result (out.new.items ≡ out.old.items ++ summary_words all good) }
 {
@@ -57,7 +57,7 @@ pub fn push_summary_words(out: &mut Vec<u8>, all: u32, good: u32) -> Result<(), 
 }
 
 /// Puts the line behind `out` that says so, where there are two or more. An error only when out of memory.
-#[tactic(auto, unfolding(book_draw_plan::specs::Bars::summary_line))]
+#[tactic(auto, unfolding(book_scope_plan::specs::Bars::summary_line))]
 pub fn push_summary_line(out: &mut Vec<u8>, all: u32, good: u32) -> Result<(), AllocError>
     ensures { OnOk result (out.new.items ≡ out.old.items ++ summary_line all good) }
 {
@@ -69,7 +69,7 @@ pub fn push_summary_line(out: &mut Vec<u8>, all: u32, good: u32) -> Result<(), A
 }
 
 /// The line that marks the slices in which something is wrong.
-#[tactic(auto, unfolding(book_draw_plan::specs::Bars::bar_line))]
+#[tactic(auto, unfolding(book_scope_plan::specs::Bars::bar_line))]
 fn push_wrong(
     out: &mut Vec<u8>,
     ends: &Connected,
@@ -110,7 +110,7 @@ fn push_wrong_if(
 /// slice in each second of which the row does so, `+` one in some of which. Below them, where there is a finding,
 /// each slice is marked in which one is seen: a row that isn't met at the other end may send in it, or a gap has a
 /// second of it. An error only when out of memory.
-#[tactic(auto, unfolding(book_draw_plan::specs::Bars::both_bars))]
+#[tactic(auto, unfolding(book_scope_plan::specs::Bars::both_bars))]
 pub fn push_bars(
     alloc: Global,
     out: &mut Vec<u8>,

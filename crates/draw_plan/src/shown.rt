@@ -1,11 +1,11 @@
 //! A bar with what is drawn of it.
 ghost use Rattle.std.specs.Prelude.{◌≡◌, option_map};
-ghost use Rattle.book_draw_plan.specs.Bars.{bar_shown, shown_bar};
+ghost use Rattle.book_scope_plan.specs.Bars.{bar_shown, shown_bar};
 ghost use Rattle.draw_plan.specs.Drawn.{shown_of};
 
 use crate::wrong::Connected;
 use book_base::Pair;
-use book_draw_plan::{Bar, Duty, Slice};
+use book_scope_plan::{Bar, Duty, Slice};
 use key_table::Row;
 use plan_texts::row_numbered;
 

@@ -1,8 +1,8 @@
 //! The slices of a time.
 ghost use Rattle.std.specs.Prelude.{◌≡◌, ◌++◌, ◌+◌, ◌<◌, ◌≤◌, ◌^◌, IfOk, OnOk};
-ghost use Rattle.book_draw_plan.specs.Slices.{most_slices, slice_width, slices_from, slices_of};
+ghost use Rattle.book_scope_plan.specs.Slices.{most_slices, slice_width, slices_from, slices_of};
 
-use book_draw_plan::Slice;
+use book_scope_plan::Slice;
 use std::alloc::{AllocError, Global};
 
 /// How many seconds a slice has, the last one apart.

@@ -1,13 +1,13 @@
 //! The slices in which something is wrong.
 ghost use Rattle.std.specs.Prelude.{◌≡◌, ◌++◌, OnOk, option_map};
-ghost use Rattle.book_draw_plan.specs.Bars.{is_marked, is_seen, may_send_in, numbered_sends, pair_at, slice_mark};
-ghost use Rattle.book_draw_plan.specs.Bars.{wrong_byte, wrong_bytes};
+ghost use Rattle.book_scope_plan.specs.Bars.{is_marked, is_seen, may_send_in, numbered_sends, pair_at, slice_mark};
+ghost use Rattle.book_scope_plan.specs.Bars.{wrong_byte, wrong_bytes};
 ghost use Rattle.book_scope_plan.specs.CalendarTexts.{side_of};
 
 use crate::fillings::{is_filled, row_filling};
 use book_base::{End, Pair};
-use book_draw_plan::{Duty, Slice};
 use book_plans::Finding;
+use book_scope_plan::{Duty, Slice};
 use both_ends::BothEnds;
 use key_table::{Row, Table, mirrored};
 use plan_texts::row_numbered;
@@ -81,7 +81,7 @@ fn wrong_byte(is_wrong: bool) -> u8
     if is_wrong { b'!' } else { b' ' }
 }
 
-#[tactic(auto, unfolding(book_draw_plan::specs::Bars::slice_mark))]
+#[tactic(auto, unfolding(book_scope_plan::specs::Bars::slice_mark))]
 fn push_slice_mark(
     out: &mut Vec<u8>,
     ends: &Connected,

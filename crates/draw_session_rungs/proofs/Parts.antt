@@ -4,8 +4,8 @@ use Rattle.std.proofs.lemmas.Bool.Decides.{nat_tests}
 use Rattle.std.proofs.lemmas.List.{append-nil}
 use Rattle.book_base.specs.declared.end.End.TheVariants.{A}
 use Rattle.book_draw.specs.Ladders.{blank_way, line_at}
-use Rattle.book_draw_session.specs.Ladders.{names_text}
-use Rattle.page_draw_session_svg.specs.SessionPictures.{key_sample_svg, key_samples_from}
+use Rattle.book_draw.specs.SessionLadders.{names_text}
+use Rattle.page_draw_svg.specs.SessionPictures.{key_sample_svg, key_samples_from}
 
 pub long_names : {E : Type 0} (result : Result (Unit {0}) E) (o l r a b n : List ℕ) → 27 < length l → a ≡ o ++ l → b ≡ a ++ 10 ∷ []
     → OnOk result (n ≡ b ++ line_at A [] blank_way r) → OnOk result (n ≡ o ++ names_text l r)

@@ -7,7 +7,7 @@ use Rattle.book_lines.specs.Texts.{spaced}
 use Rattle.book_link.specs.Reports.{verdict_text}
 use Rattle.book_sessions.specs.declared.outcome.SegmentOutcome.{SegmentOutcome}
 use Rattle.book_sessions.specs.declared.outcome.SegmentOutcome.TheVariants as outcome
-use Rattle.book_draw_session.specs.Ladders.{said_texts}
+use Rattle.book_draw.specs.SessionLadders.{said_texts}
 
 pub puts_unconfirmed : {E : Type 0} (result : Result (Unit {0}) E) (before after : List ℕ) (said : SegmentOutcome) (why : Refusal) → said ≡ outcome.UnconfirmedRefused why
     → OnOk result (after ≡ before ++ 32 ∷ codes "unconfirmed-" ++ verdict_text why) → OnOk result (after ≡ before ++ spaced (said_texts said))

@@ -1,23 +1,22 @@
 //! The elements of a picture: each segment in its row.
 ghost use Rattle.std.specs.Prelude.{◌≡◌, ◌++◌, IfOk, OnOk, codes};
-ghost use Rattle.page_draw_session_svg.specs.SessionPictures.{rung_arrow_svg, outcome_dashes, rung_drawing_svg};
-ghost use Rattle.page_draw_session_svg.specs.SessionPictures.{rung_svg, upright_column, rung_label_column};
-ghost use Rattle.page_draw_session_svg.specs.SessionPictures.{rung_label_height, rung_label_svg, rung_margin_column};
-ghost use Rattle.page_draw_session_svg.specs.SessionPictures.{rung_margin_height, rung_margin_svg, rung_numbers};
-ghost use Rattle.page_draw_session_svg.specs.SessionPictures.{rung_packet_svg, rung_in_row, rung_height, rung_title};
-ghost use Rattle.book_draw_session.specs.Ladders.{said_texts};
+ghost use Rattle.page_draw_svg.specs.SessionPictures.{rung_arrow_svg, outcome_dashes, rung_drawing_svg};
+ghost use Rattle.page_draw_svg.specs.SessionPictures.{rung_svg, upright_column, rung_label_column};
+ghost use Rattle.page_draw_svg.specs.SessionPictures.{rung_label_height, rung_label_svg, rung_margin_column};
+ghost use Rattle.page_draw_svg.specs.SessionPictures.{rung_margin_height, rung_margin_svg, rung_numbers};
+ghost use Rattle.page_draw_svg.specs.SessionPictures.{rung_packet_svg, rung_in_row, rung_height, rung_title};
+ghost use Rattle.book_draw.specs.SessionLadders.{said_texts};
 ghost use Rattle.book_lines.specs.Texts.{spaced};
 
 use crate::lines::{NANOSECONDS, key_id_of, push_label, push_outcome, push_time, reached_end};
 use ao_base::push_decimal;
 use book_base::End;
-use book_draw_session::{SessionEnds, SessionRung};
+use book_draw::{SessionEnds, SessionRung};
 use book_sessions::SegmentOutcome;
 use both_ends::{is_same_end, other};
-use page_svg::Point;
+use page_svg::{Point, push_line, push_titled, push_words};
 use scope_texts::push_instant;
 use std::alloc::{AllocError, Global};
-use svg_tags::{push_line, push_titled, push_words};
 use text_lines::push_field;
 
 /// The height of a row.
@@ -153,7 +152,7 @@ pub(crate) fn push_packet(out: &mut Vec<u8>, row: u32, packet: u64) -> Result<()
 }
 
 /// What is drawn of a segment that comes to the end.
-#[tactic(auto, unfolding(page_draw_session_svg::specs::SessionPictures::rung_drawing_svg))]
+#[tactic(auto, unfolding(page_draw_svg::specs::SessionPictures::rung_drawing_svg))]
 fn drawing_of(alloc: Global, at: End, row: u32, rung: &SessionRung) -> Result<Vec<u8>, AllocError>
     ensures { IfOk result (λ text. text.items ≡ rung_drawing_svg at (rung_in_row row rung.now)) }
 {
@@ -173,7 +172,7 @@ fn drawing_of(alloc: Global, at: End, row: u32, rung: &SessionRung) -> Result<Ve
 }
 
 /// The numbers of a segment.
-#[tactic(auto, unfolding(page_draw_session_svg::specs::SessionPictures::rung_numbers))]
+#[tactic(auto, unfolding(page_draw_svg::specs::SessionPictures::rung_numbers))]
 fn push_numbers(out: &mut Vec<u8>, rung: &SessionRung) -> Result<(), AllocError>
     ensures { OnOk result (out.new.items ≡ out.old.items ++ rung_numbers rung.now) }
 {
@@ -184,7 +183,7 @@ fn push_numbers(out: &mut Vec<u8>, rung: &SessionRung) -> Result<(), AllocError>
 }
 
 /// The title of a segment.
-#[tactic(auto, unfolding(page_draw_session_svg::specs::SessionPictures::rung_title))]
+#[tactic(auto, unfolding(page_draw_svg::specs::SessionPictures::rung_title))]
 fn title_of(alloc: Global, rung: &SessionRung) -> Result<Vec<u8>, AllocError>
     ensures { IfOk result (λ text. text.items ≡ rung_title rung.now) }
 {
@@ -197,7 +196,7 @@ fn title_of(alloc: Global, rung: &SessionRung) -> Result<Vec<u8>, AllocError>
 }
 
 /// Puts the element of a segment between these ends behind `out`.
-#[tactic(auto, unfolding(page_draw_session_svg::specs::SessionPictures::rung_svg))]
+#[tactic(auto, unfolding(page_draw_svg::specs::SessionPictures::rung_svg))]
 pub(crate) fn push_element(
     out: &mut Vec<u8>,
     ends: &SessionEnds,

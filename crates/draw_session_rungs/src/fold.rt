@@ -1,18 +1,18 @@
 //! Runs of segments that say the same.
 ghost use Rattle.std.specs.Prelude.{◌≡◌, ◌++◌, ◌<◌, IfOk, OnOk};
 ghost use Rattle.std.specs.Str.{bytes_eq};
-ghost use Rattle.book_draw_session.specs.Folds.{after_drawn, and_kind, fold_lines, fold_start, fold_step};
-ghost use Rattle.book_draw_session.specs.Folds.{folds_with, stands_within, kept_kind, kinds_to, folded_lines};
-ghost use Rattle.book_draw_session.specs.Folds.{counted_on, run_label, run_lines, run_with, says_again};
-ghost use Rattle.book_draw_session.specs.Folds.{folded_session};
-ghost use Rattle.book_draw_session.specs.Ladders.{reached_end};
-ghost use Rattle.book_draw_session.specs.Rungs.{has_flag};
+ghost use Rattle.book_draw.specs.Folds.{after_drawn, and_kind, fold_lines, fold_start, fold_step};
+ghost use Rattle.book_draw.specs.Folds.{folds_with, stands_within, kept_kind, kinds_to, folded_lines};
+ghost use Rattle.book_draw.specs.Folds.{counted_on, run_label, run_lines, run_with, says_again};
+ghost use Rattle.book_draw.specs.Folds.{folded_session};
+ghost use Rattle.book_draw.specs.SessionLadders.{reached_end};
+ghost use Rattle.book_draw.specs.SessionRungs.{has_flag};
 
 use crate::lines::reached_end;
 use crate::says::{is_even, is_keyed, is_saying, push_run_words};
 use ao_base::push_decimal;
 use book_base::End;
-use book_draw_session::{Folding, RungKinds, RungRun, SessionEnds, SessionLine, SessionRung};
+use book_draw::{Folding, RungKinds, RungRun, SessionEnds, SessionLine, SessionRung};
 use std::alloc::{AllocError, Global};
 
 /// Before the first segment.

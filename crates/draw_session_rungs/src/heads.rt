@@ -1,23 +1,22 @@
 //! What stands in front of the segments of a picture.
 ghost use Rattle.std.specs.Prelude.{◌≡◌, ◌++◌, OnOk, codes};
-ghost use Rattle.book_draw_session.specs.Ladders.{end_name};
-ghost use Rattle.page_draw_session_svg.specs.SessionPictures.{outcome_dashes, session_front_svg, outcome_sample_svg};
-ghost use Rattle.page_draw_session_svg.specs.SessionPictures.{outcome_samples_svg, arrow_tip_svg};
-ghost use Rattle.page_draw_session_svg.specs.SessionPictures.{session_upright_svg, session_uprights_svg};
+ghost use Rattle.book_draw.specs.SessionLadders.{end_name};
+ghost use Rattle.page_draw_svg.specs.SessionPictures.{outcome_dashes, session_front_svg, outcome_sample_svg};
+ghost use Rattle.page_draw_svg.specs.SessionPictures.{outcome_samples_svg, arrow_tip_svg};
+ghost use Rattle.page_draw_svg.specs.SessionPictures.{session_upright_svg, session_uprights_svg};
 ghost use Rattle.page_svg.specs.Tags.{words_tag};
 
 use crate::elements::{outcome_dashes, rung_height, upright_column};
 use crate::keys::push_key_samples;
 use crate::lines::push_end;
 use book_base::{End, Socket};
-use book_draw_session::SessionEnds;
+use book_draw::SessionEnds;
 use book_sessions::SegmentOutcome;
-use page_svg::Point;
+use page_svg::{Point, push_head, push_line, push_words};
 use std::alloc::AllocError;
-use svg_tags::{push_head, push_line, push_words};
 
 /// The tip of an arrow.
-#[tactic(auto, unfolding(page_draw_session_svg::specs::SessionPictures::arrow_tip_svg))]
+#[tactic(auto, unfolding(page_draw_svg::specs::SessionPictures::arrow_tip_svg))]
 fn push_tip(out: &mut Vec<u8>) -> Result<(), AllocError>
     ensures { OnOk result (out.new.items ≡ out.old.items ++ arrow_tip_svg) }
 {
@@ -43,7 +42,7 @@ fn push_black(out: &mut Vec<u8>, said: SegmentOutcome) -> Result<(), AllocError>
 }
 
 /// The sample of a stroke, in this column, with its name.
-#[tactic(auto, unfolding(page_draw_session_svg::specs::SessionPictures::outcome_sample_svg))]
+#[tactic(auto, unfolding(page_draw_svg::specs::SessionPictures::outcome_sample_svg))]
 fn push_sample(
     out: &mut Vec<u8>,
     column: u16,
@@ -62,7 +61,7 @@ fn push_sample(
 }
 
 /// The strokes and their names.
-#[tactic(auto, unfolding(page_draw_session_svg::specs::SessionPictures::outcome_samples_svg))]
+#[tactic(auto, unfolding(page_draw_svg::specs::SessionPictures::outcome_samples_svg))]
 fn push_samples(out: &mut Vec<u8>) -> Result<(), AllocError>
     ensures { OnOk result (out.new.items ≡ out.old.items ++ outcome_samples_svg) }
 {
@@ -95,7 +94,7 @@ fn push_name(out: &mut Vec<u8>, at: Point, ends: bool, socket: &Socket) -> Resul
 }
 
 /// The two ends, of this height, with their names.
-#[tactic(auto, unfolding(page_draw_session_svg::specs::SessionPictures::session_uprights_svg))]
+#[tactic(auto, unfolding(page_draw_svg::specs::SessionPictures::session_uprights_svg))]
 fn push_uprights(out: &mut Vec<u8>, ends: &SessionEnds, height: u64) -> Result<(), AllocError>
     ensures { OnOk result (out.new.items ≡ out.old.items ++ session_uprights_svg ends.now height) }
 {
@@ -106,7 +105,7 @@ fn push_uprights(out: &mut Vec<u8>, ends: &SessionEnds, height: u64) -> Result<(
 }
 
 /// Puts what stands in front of so many segments with these keys behind `out`.
-#[tactic(auto, unfolding(page_draw_session_svg::specs::SessionPictures::session_front_svg))]
+#[tactic(auto, unfolding(page_draw_svg::specs::SessionPictures::session_front_svg))]
 pub(crate) fn push_front(
     out: &mut Vec<u8>,
     ends: &SessionEnds,

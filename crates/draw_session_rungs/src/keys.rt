@@ -1,17 +1,16 @@
 //! The keys of a session, and the samples of their colours.
 ghost use Rattle.std.specs.Prelude.{◌≡◌, ◌≤◌, ◌<◌, ◌++◌, IfOk, OnOk, codes};
 ghost use Rattle.std.specs.List.{list_any};
-ghost use Rattle.page_draw_session_svg.specs.SessionPictures.{and_key, key_name, key_sample_svg, key_samples_from};
-ghost use Rattle.page_draw_session_svg.specs.SessionPictures.{keys_drawn};
+ghost use Rattle.page_draw_svg.specs.SessionPictures.{and_key, key_name, key_sample_svg, key_samples_from};
+ghost use Rattle.page_draw_svg.specs.SessionPictures.{keys_drawn};
 ghost use Rattle.book_sessions.specs.Sessions.{same_id};
 ghost use Rattle.page_svg.specs.Tags.{colour_text};
 
 use crate::lines::key_id_of;
 use ao_base::push_decimal;
-use book_draw_session::SessionRung;
-use page_svg::Point;
+use book_draw::SessionRung;
+use page_svg::{Point, push_colour, push_line, push_words};
 use std::alloc::{AllocError, Global};
-use svg_tags::{push_colour, push_line, push_words};
 
 /// How many samples stand side by side.
 const MOST_SAMPLES: usize = 8;
@@ -77,7 +76,7 @@ fn push_stroke(out: &mut Vec<u8>, key: Option<u8>) -> Result<(), AllocError>
 }
 
 /// The sample of a key's colour, in this place, with its name.
-#[tactic(auto, unfolding(page_draw_session_svg::specs::SessionPictures::key_sample_svg))]
+#[tactic(auto, unfolding(page_draw_svg::specs::SessionPictures::key_sample_svg))]
 fn push_key_sample(out: &mut Vec<u8>, place: u8, key: Option<u8>) -> Result<(), AllocError>
     ensures { OnOk result (out.new.items ≡ out.old.items ++ key_sample_svg place key) }
 {

@@ -1,18 +1,17 @@
 //! The segments that are left out of a session.
 ghost use Rattle.std.specs.Prelude.{◌≡◌, ◌++◌, IfOk, OnOk, map};
-ghost use Rattle.book_draw_session.specs.Folds.{line_of_left};
-ghost use Rattle.book_draw_session.specs.Ladders.{left_line, left_text};
-ghost use Rattle.book_draw_session.specs.Times.{left_at, left_runs, left_words, segments_word, side_word};
-ghost use Rattle.page_draw_session_svg.specs.SessionPictures.{left_svg};
+ghost use Rattle.book_draw.specs.Folds.{line_of_left};
+ghost use Rattle.book_draw.specs.SessionLadders.{left_line, left_text};
+ghost use Rattle.book_draw.specs.Times.{left_at, left_runs, left_words, segments_word, side_word};
+ghost use Rattle.page_draw_svg.specs.SessionPictures.{left_svg};
 
 use crate::elements::{rung_label_column, rung_margin_height};
 use ao_base::push_decimal;
 use book_base::End;
-use book_draw_session::{DrawnTime, LeftOut, LeftRun, LeftSide, SessionLine};
-use page_svg::Point;
+use book_draw::{DrawnTime, LeftOut, LeftRun, LeftSide, SessionLine};
+use page_svg::{Point, push_titled, push_words};
 use scope_texts::push_instant;
 use std::alloc::{AllocError, Global};
-use svg_tags::{push_titled, push_words};
 
 fn side_word(side: LeftSide) -> &'static [u8]
     ensures { result.now ≡ side_word side }

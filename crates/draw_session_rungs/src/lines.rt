@@ -4,13 +4,13 @@ ghost use Rattle.book_draw.specs.Ladders.{arrowhead, length_label, line_at, way_
 ghost use Rattle.book_lines.specs.Texts.{spaced};
 ghost use Rattle.book_link.specs.Reports.{verdict_text};
 ghost use Rattle.book_sessions.specs.SessionTexts.{id_text};
-ghost use Rattle.book_draw_session.specs.Ladders.{end_name, ends_text, flag_letter, flag_letters, line_to};
-ghost use Rattle.book_draw_session.specs.Ladders.{margin_beside, names_text, numbered_line, said_texts, reached_end};
-ghost use Rattle.book_draw_session.specs.Ladders.{rung_label, rung_stroke, session_rung_text, time_margin};
+ghost use Rattle.book_draw.specs.SessionLadders.{end_name, ends_text, flag_letter, flag_letters, line_to};
+ghost use Rattle.book_draw.specs.SessionLadders.{margin_beside, names_text, numbered_line, said_texts, reached_end};
+ghost use Rattle.book_draw.specs.SessionLadders.{rung_label, rung_stroke, session_rung_text, time_margin};
 
 use ao_base::push_decimal;
 use book_base::{End, Socket};
-use book_draw_session::{SessionEnds, SessionRung};
+use book_draw::{SessionEnds, SessionRung};
 use book_endpoint::Refusal;
 use book_sessions::{KeyIds, SegmentOutcome};
 use both_ends::other;
@@ -34,7 +34,7 @@ fn push_flag(out: &mut Vec<u8>, flags: u8, flag: u8, letter: u8) -> Result<(), A
 }
 
 // Puts the letters of the flags that are set behind `out`.
-#[tactic(auto, unfolding(book_draw_session::specs::Ladders::flag_letters))]
+#[tactic(auto, unfolding(book_draw::specs::SessionLadders::flag_letters))]
 fn push_flags(out: &mut Vec<u8>, flags: u8) -> Result<(), AllocError>
     ensures { OnOk result (out.new.items ≡ out.old.items ++ flag_letters flags) }
 {
@@ -227,7 +227,7 @@ fn push_line_to(out: &mut Vec<u8>, at: End, rung: &SessionRung) -> Result<(), Al
 }
 
 /// Puts the line of a segment between these ends behind `out`. An error only for want of memory.
-#[tactic(auto, unfolding(book_draw_session::specs::Ladders::session_rung_text))]
+#[tactic(auto, unfolding(book_draw::specs::SessionLadders::session_rung_text))]
 pub fn push_rung(
     out: &mut Vec<u8>,
     ends: &SessionEnds,
@@ -261,7 +261,7 @@ fn push_both_names(out: &mut Vec<u8>, left: &[u8], right: &[u8]) -> Result<(), A
 }
 
 /// Puts the names of the ends above their strokes behind `out`. An error only for want of memory.
-#[tactic(auto, unfolding(book_draw_session::specs::Ladders::ends_text))]
+#[tactic(auto, unfolding(book_draw::specs::SessionLadders::ends_text))]
 pub fn push_ends(out: &mut Vec<u8>, ends: &SessionEnds) -> Result<(), AllocError>
     ensures { OnOk result (out.new.items ≡ out.old.items ++ ends_text ends.now) }
 {

@@ -1,15 +1,15 @@
 //! The picture of a session.
 ghost use Rattle.std.specs.Prelude.{◌≡◌, ◌≤◌, ◌++◌, IfOk, OnOk, flat_map, length};
-ghost use Rattle.book_draw_session.specs.Times.{left_runs};
-ghost use Rattle.page_draw_session_svg.specs.SessionPictures.{session_line_svg, session_lines_picture};
-ghost use Rattle.page_draw_session_svg.specs.SessionPictures.{session_picture, session_rows};
+ghost use Rattle.book_draw.specs.Times.{left_runs};
+ghost use Rattle.page_draw_svg.specs.SessionPictures.{session_line_svg, session_lines_picture};
+ghost use Rattle.page_draw_svg.specs.SessionPictures.{session_picture, session_rows};
 
 use crate::fold::session_lines;
 use crate::heads::push_front;
 use crate::keys::keys_drawn;
 use crate::left::push_left_lines;
 use crate::runs::push_line_element;
-use book_draw_session::{DrawnTime, LeftOut, SessionEnds, SessionLine, SessionRung};
+use book_draw::{DrawnTime, LeftOut, SessionEnds, SessionLine, SessionRung};
 use std::alloc::{AllocError, Global};
 
 /// The most lines of a picture, 2^32 - 1.
@@ -32,7 +32,7 @@ fn push_elements(
 }
 
 /// The picture of lines between these ends, whose segments have these keys.
-#[tactic(auto, unfolding(page_draw_session_svg::specs::SessionPictures::session_lines_picture))]
+#[tactic(auto, unfolding(page_draw_svg::specs::SessionPictures::session_lines_picture))]
 fn print_lines(
     alloc: Global,
     ends: &SessionEnds,

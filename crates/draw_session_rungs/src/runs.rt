@@ -1,10 +1,10 @@
 //! The elements of runs of segments, and those of lines.
 ghost use Rattle.std.specs.Prelude.{◌≡◌, ◌++◌, ◌∷◌, IfOk, OnOk, None, decimal, false};
 ghost use Rattle.book_base.specs.declared.end.End.TheVariants.{A};
-ghost use Rattle.book_draw_session.specs.Folds.{run_label};
-ghost use Rattle.book_draw_session.specs.Ladders.{time_margin};
-ghost use Rattle.page_draw_session_svg.specs.SessionPictures.{line_element, run_drawing_svg, run_svg, run_title};
-ghost use Rattle.page_draw_session_svg.specs.SessionPictures.{rung_label_column, rung_margin_height};
+ghost use Rattle.book_draw.specs.Folds.{run_label};
+ghost use Rattle.book_draw.specs.SessionLadders.{time_margin};
+ghost use Rattle.page_draw_svg.specs.SessionPictures.{line_element, run_drawing_svg, run_svg, run_title};
+ghost use Rattle.page_draw_svg.specs.SessionPictures.{rung_label_column, rung_margin_height};
 ghost use Rattle.page_svg.specs.Tags.{words_tag};
 
 use crate::elements::{
@@ -15,13 +15,12 @@ use crate::left::push_left;
 use crate::lines::push_time;
 use ao_base::push_decimal;
 use book_base::End;
-use book_draw_session::{RungRun, SessionEnds, SessionLine};
-use page_svg::Point;
+use book_draw::{RungRun, SessionEnds, SessionLine};
+use page_svg::{Point, push_titled, push_words};
 use std::alloc::{AllocError, Global};
-use svg_tags::{push_titled, push_words};
 
 /// The title of a run.
-#[tactic(auto, unfolding(page_draw_session_svg::specs::SessionPictures::run_title))]
+#[tactic(auto, unfolding(page_draw_svg::specs::SessionPictures::run_title))]
 fn title_of_run(alloc: Global, run: &RungRun) -> Result<Vec<u8>, AllocError>
     ensures { IfOk result (λ text. text.items ≡ run_title run.now) }
 {
@@ -63,7 +62,7 @@ fn last_words(alloc: Global, run: &RungRun) -> Result<Vec<u8>, AllocError>
 }
 
 /// What is drawn of a run in its row.
-#[tactic(auto, unfolding(page_draw_session_svg::specs::SessionPictures::run_drawing_svg))]
+#[tactic(auto, unfolding(page_draw_svg::specs::SessionPictures::run_drawing_svg))]
 fn drawing_of_run(alloc: Global, row: u32, run: &RungRun) -> Result<Vec<u8>, AllocError>
     ensures { IfOk result (λ text. text.items ≡ run_drawing_svg row run.now) }
 {

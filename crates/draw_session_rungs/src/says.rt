@@ -1,12 +1,12 @@
 //! What segments say, and whether two say the same.
 ghost use Rattle.std.specs.Prelude.{◌≡◌, ◌++◌, IfOk, OnOk};
 ghost use Rattle.std.specs.Str.{bytes_eq};
-ghost use Rattle.book_draw_session.specs.Folds.{key_words, rung_words, run_words};
+ghost use Rattle.book_draw.specs.Folds.{key_words, rung_words, run_words};
 ghost use Rattle.book_sessions.specs.SessionTexts.{id_text};
 
 use crate::lines::{key_id_of, push_ids, push_label, push_outcome};
 use ao_base::push_decimal;
-use book_draw_session::SessionRung;
+use book_draw::SessionRung;
 use std::alloc::{AllocError, Global};
 
 fn is_same_text(one: &[u8], two: &[u8]) -> bool

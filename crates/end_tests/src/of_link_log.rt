@@ -1,17 +1,16 @@
 //! Which arrivals a log takes for forgeries.
 ghost use Rattle.std.specs.Prelude.{◌≡◌, ◌+◌, ◌<◌, ◌≤◌, length, IfOk, OnOk};
-ghost use Rattle.link_log.specs.Logs.{made_count};
+ghost use Rattle.link_report.specs.Logs.{made_count};
 
 use ao_check::Passing;
 use book_base::{Address, Algorithm, Bytes, End, Socket};
 use book_endpoint::Passed;
 use book_macs::Context;
 use key_table::{AddRefusal, Direction, Lifetime, NewRow, Row, Table};
-use link_log::Log;
+use link_report::Log;
 use std::alloc::{AllocError, Global};
 use std::test::Fail;
-use tcp_options::AoFound;
-use tcp_segment::read_datagram;
+use tcp_segment::{AoFound, read_datagram};
 
 const SOCKET: Socket = Socket {
     address: Address::V6([0; 16]),

@@ -3,7 +3,7 @@ ghost use Rattle.book_base.specs.Addresses.{IsOneFamily};
 
 use book_base::{Address, Pair, Socket};
 use key_table::Table;
-use node_ends::{Node, NodeRefusal};
+use stack_ends::{Node, NodeRefusal};
 use std::alloc::{AllocError, Global};
 use std::test::Fail;
 

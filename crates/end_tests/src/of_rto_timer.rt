@@ -1,5 +1,5 @@
 //! Values that the arithmetic gives, and its limits.
-use rto_timer::Rto;
+use stack_timers::Rto;
 
 // A sample of two seconds: SRTT 2000, RTTVAR 1000. A second one: RTTVAR 750.
 #[test]

@@ -2,6 +2,8 @@
 //! it is what the book says.
 #![tactic(auto)]
 
+mod endpoint_laws;
 mod laws;
 
+pub use endpoint_laws::only_what_is_taken_moves;
 pub use laws::{arrivals_by_steps, emit_by_drafts};

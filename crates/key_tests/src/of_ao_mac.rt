@@ -5,7 +5,7 @@ ghost use Rattle.book_base.specs.Algorithms.{mac_length_of};
 ghost use Rattle.book_macs.specs.Keys.{key_length};
 ghost use Rattle.tcp_segment.specs.Layout.{IsHead};
 ghost use Rattle.book_segments.specs.Options.{One, find_ao};
-ghost use Rattle.tcp_options.specs.Views.{view_ao};
+ghost use Rattle.tcp_segment.specs.Views.{view_ao};
 ghost use Rattle.ao_mac.specs.Macs.{HasAo};
 
 mod segments;
@@ -18,8 +18,7 @@ use segments::{ALONE, SYN_HMAC};
 use std::marker::Brand;
 use std::sync::ledger::{Blank, Ledger};
 use std::test::Fail;
-use tcp_options::AoFound;
-use tcp_segment::{Datagram, Head, read_datagram, write_datagram};
+use tcp_segment::{AoFound, Datagram, Head, read_datagram, write_datagram};
 
 /// The master key of RFC 9235, section 3.1.
 const MASTER: &[u8; 10] = b"testvector";

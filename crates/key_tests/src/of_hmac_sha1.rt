@@ -1,7 +1,7 @@
 //! A message whole and in pieces. The other vectors of RFC 2202 and RFC 4231 stand in the examples of `vectors`.
 ghost use Rattle.std.specs.Prelude.{◌<◌};
 
-use hmac_sha1::{HmacSha1, HmacSha256};
+use ao_kdf::{HmacSha1, HmacSha256};
 
 /// More bytes than a message of these vectors has: it is fed whole.
 const WHOLE: usize = 200;

@@ -4,12 +4,12 @@ use Rattle.book_keys.specs.Nodes.{tables_of}
 use Rattle.book_keys.specs.Rows.{Table}
 use Rattle.book_link.specs.Worlds.{setup_of}
 use Rattle.book_cmd_link.specs.declared.script.Script.{Script}
-use Rattle.book_cmd_timed.specs.declared.timed.TimedScript.{TimedScript}
-use Rattle.book_cmd_timed.specs.TimedRuns.{most_events}
+use Rattle.book_cmd_link.specs.declared.timed.TimedScript.{TimedScript}
+use Rattle.book_cmd_link.specs.TimedRuns.{most_events}
 use Rattle.book_cmd_link.specs.declared.script.KeysFrom.TheVariants as keys_from
 use Rattle.book_cmd_link.specs.LinkFiles.{shared_by}
 use Rattle.book_cmd_link.specs.LinkFiles.{script_of}
-use Rattle.book_cmd_timed.specs.TimedRuns.{expand, timed_script_of}
+use Rattle.book_cmd_link.specs.TimedRuns.{expand, timed_script_of}
 use Rattle.law_headline.specs.GetsThrough.{GetsThrough}
 use Rattle.law_headline.proofs.InputLaws.{events_fit, few_in, keyed_fits, keyed_tables, shared_fits, shared_tables_fit}
 use Rattle.law_headline.proofs.Through.{few_through}

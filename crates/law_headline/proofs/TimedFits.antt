@@ -11,10 +11,10 @@ use Rattle.book_link.specs.declared.event.Event.TheVariants.{At}
 use Rattle.book_link.specs.declared.event.Action.TheVariants.{Clock, Resend}
 use Rattle.law_link.specs.Laws.{EventFits, SetupFits}
 use Rattle.book_link.specs.Worlds.{Setup, setup_of}
-use Rattle.book_cmd_timed.specs.declared.timed.TimedEvent.{TimedEvent}
-use Rattle.book_cmd_timed.specs.declared.timed.TimedEvent.TheVariants.{Plain, Wait}
-use Rattle.book_cmd_timed.specs.declared.timed.TimedScript.{TimedScript}
-use Rattle.book_cmd_timed.specs.TimedRuns.{Expanded, Progress, after_expiry, before, begins_timed, by_expiry, due_at, expand, expand_from, expired_then, expiry, plain, reading_at, timed_event, timed_script_of, until, waited}
+use Rattle.book_cmd_link.specs.declared.timed.TimedEvent.{TimedEvent}
+use Rattle.book_cmd_link.specs.declared.timed.TimedEvent.TheVariants.{Plain, Wait}
+use Rattle.book_cmd_link.specs.declared.timed.TimedScript.{TimedScript}
+use Rattle.book_cmd_link.specs.TimedRuns.{Expanded, Progress, after_expiry, before, begins_timed, by_expiry, due_at, expand, expand_from, expired_then, expiry, plain, reading_at, timed_event, timed_script_of, until, waited}
 use Rattle.law_scripts.specs.Timed.{IsTimedEvent, IsTimedScript}
 use Rattle.law_scripts.proofs.TimedRanges.{timed_script_ok}
 use Rattle.law_headline.proofs.InputLaws.{event_fits, fits}

@@ -11,11 +11,11 @@ ghost use Rattle.law_link.specs.Laws.{SetupFits, TablesFit, EventFits};
 ghost use Rattle.book_link.specs.Storm.{storm_setup, storm_events};
 ghost use Rattle.book_link.specs.Worlds.{Setup, setup_of};
 ghost use Rattle.book_cmd_link.specs.declared.script.Script.{Script};
-ghost use Rattle.book_cmd_timed.specs.declared.timed.TimedScript.{TimedScript};
-ghost use Rattle.book_cmd_timed.specs.TimedRuns.{most_events};
+ghost use Rattle.book_cmd_link.specs.declared.timed.TimedScript.{TimedScript};
+ghost use Rattle.book_cmd_link.specs.TimedRuns.{most_events};
 ghost use Rattle.book_cmd_link.specs.LinkFiles.{shared_by};
 ghost use Rattle.book_cmd_link.specs.LinkFiles.{script_of};
-ghost use Rattle.book_cmd_timed.specs.TimedRuns.{expand, timed_script_of};
+ghost use Rattle.book_cmd_link.specs.TimedRuns.{expand, timed_script_of};
 ghost use Rattle.law_headline.specs.GetsThrough.{GetsThrough};
 
 /// The sockets of a link file with the tables of a key file, or with those of the key that the link

@@ -10,10 +10,10 @@ use Rattle.book_keys.specs.declared.fault.TableFault.{TableFault}
 use Rattle.book_keys.specs.declared.fault.TableFault.TheVariants as fault
 use Rattle.book_keys.specs.Reading.{must}
 use Rattle.book_keys.specs.Columns.{only}
-use Rattle.book_scope_keys.specs.declared.finding.KeyFinding.{KeyFinding}
-use Rattle.book_scope_keys.specs.declared.finding.KeyPlace.{KeyPlace}
-use Rattle.book_scope_keys.specs.FieldTexts.{finding_at, finding_unless, text_shown}
-use Rattle.book_scope_keys.specs.RowFindings.{key_finding, keys_in, unknown_findings}
+use Rattle.book_scope_texts.specs.declared.finding.KeyFinding.{KeyFinding}
+use Rattle.book_scope_texts.specs.declared.finding.KeyPlace.{KeyPlace}
+use Rattle.book_scope_texts.specs.FieldTexts.{finding_at, finding_unless, text_shown}
+use Rattle.book_scope_texts.specs.RowFindings.{key_finding, keys_in, unknown_findings}
 use Rattle.law_keys.specs.FirstFindings.{BeginsWith, IsOfField, column_field, other_field}
 
 -- what a fault says of a finding

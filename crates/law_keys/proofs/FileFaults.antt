@@ -9,10 +9,10 @@ use Rattle.book_keys.specs.Rows.{Table, node_limit}
 use Rattle.book_keys.specs.Overlaps.{TwoRows, first_overlap}
 use Rattle.book_keys.specs.Columns.{count, only}
 use Rattle.book_keys.specs.Nodes.{overlap_of, overlap_in, unless, nodes_from, nodes_of, tables_of_document, document_of, tables_of}
-use Rattle.book_scope_keys.specs.declared.finding.KeyFinding.{KeyFinding}
-use Rattle.book_scope_keys.specs.FieldTexts.{finding_at}
-use Rattle.book_scope_keys.specs.RowFindings.{keys_in, unknown_findings}
-use Rattle.book_scope_keys.specs.FileFindings.{file_place, first_or_further, field_findings, key_place, nodes_findings, nodes_findings_from, overlap_said, refused_findings, document_findings, key_findings}
+use Rattle.book_scope_texts.specs.declared.finding.KeyFinding.{KeyFinding}
+use Rattle.book_scope_texts.specs.FieldTexts.{finding_at}
+use Rattle.book_scope_texts.specs.RowFindings.{keys_in, unknown_findings}
+use Rattle.book_scope_texts.specs.FileFindings.{file_place, first_or_further, field_findings, key_place, nodes_findings, nodes_findings_from, overlap_said, refused_findings, document_findings, key_findings}
 use Rattle.law_keys.specs.FirstFindings.{BeginsWith, IsOfField, IsFindingOf, column_field, value_keys, known_keys, other_field, row_data, table_key, value_at}
 use Rattle.law_keys.proofs.Agreeing.{TellsField, begins_and, begins_more, found_at, keys_clean, other_known, same_fault, unknown_begins}
 use Rattle.law_keys.proofs.NodeFaults.{NodeTold, Own, Many, OfRow, NodesTold, nodes_fit}

@@ -15,9 +15,9 @@ use Rattle.book_keys.specs.Reading.{each}
 use Rattle.book_keys.specs.Columns.{count, only, text_of, row_of}
 use Rattle.book_keys.specs.Nodes.{node_name_of, node_address_of, unused, rows_of, fields_of, node_of, nodes_from}
 use Rattle.book_keys.proofs.ValidLaws.{then_ok}
-use Rattle.book_scope_keys.specs.declared.finding.KeyFinding.{KeyFinding}
-use Rattle.book_scope_keys.specs.FieldTexts.{finding_at}
-use Rattle.book_scope_keys.specs.FileFindings.{key_place, table_named, bare_table, new_name, new_address, node_name_findings, node_address_findings, rows_findings_from, rows_findings, node_keys, node_called, node_fields_findings, node_findings, names_with, addresses_with, nodes_findings_from}
+use Rattle.book_scope_texts.specs.declared.finding.KeyFinding.{KeyFinding}
+use Rattle.book_scope_texts.specs.FieldTexts.{finding_at}
+use Rattle.book_scope_texts.specs.FileFindings.{key_place, table_named, bare_table, new_name, new_address, node_name_findings, node_address_findings, rows_findings_from, rows_findings, node_keys, node_called, node_fields_findings, node_findings, names_with, addresses_with, nodes_findings_from}
 use Rattle.law_keys.specs.FirstFindings.{IsOfField, value_keys, other_field}
 use Rattle.law_keys.proofs.Agreeing.{Agrees, TellsField, bind, found_at, keys_agree, last, read, refused, tested, weaker}
 use Rattle.law_keys.proofs.RowFaults.{field_some, row_fit, row_other, some_of, tells}

@@ -14,9 +14,9 @@ use Rattle.book_keys.specs.declared.lifetime.Lifetime.{Lifetime}
 use Rattle.book_keys.specs.Rows.{Row, peer_limit}
 use Rattle.book_keys.specs.Reading.{must, each}
 use Rattle.book_keys.specs.Columns.{count, row_keys, text_of, is_word, ids_of, peer_at, peers_of, protocol_of, algorithm_at, master_of, sized, lifetime_of, TimeCell, sending_start, sending_end, accepting_start, accepting_end, terms_of, ports_of, columns_of, row_of}
-use Rattle.book_scope_keys.specs.FieldTexts.{field_said, finding_at, finding_unless}
-use Rattle.book_scope_keys.specs.RowFindings.{KeyField, field_at, field_unless, id_findings, name_findings, peer_finding, each_peer_finding, peers_findings, protocol_findings, alg_id_findings, algorithm_findings, secret_findings, time_findings, order_findings, lifetime_findings, term_findings, port_findings, column_findings, row_findings}
-use Rattle.book_scope_keys.specs.FileFindings.{key_place}
+use Rattle.book_scope_texts.specs.FieldTexts.{field_said, finding_at, finding_unless}
+use Rattle.book_scope_texts.specs.RowFindings.{KeyField, field_at, field_unless, id_findings, name_findings, peer_finding, each_peer_finding, peers_findings, protocol_findings, alg_id_findings, algorithm_findings, secret_findings, time_findings, order_findings, lifetime_findings, term_findings, port_findings, column_findings, row_findings}
+use Rattle.book_scope_texts.specs.FileFindings.{key_place}
 use Rattle.law_keys.specs.FirstFindings.{column_field, value_keys, other_field}
 use Rattle.law_keys.proofs.Agreeing.{Agrees, Telling, TellsField, bind, found_at, keys_agree, last, must_agree, read, refused, some_agree, tested}
 

@@ -9,11 +9,11 @@ use Rattle.book_keys.specs.declared.fault.Column.{Column}
 use Rattle.book_keys.specs.declared.fault.Column.TheVariants as column
 use Rattle.book_keys.specs.declared.fault.TableFault.{TableFault}
 use Rattle.book_keys.specs.declared.fault.TableFault.TheVariants as fault
-use Rattle.book_cmd_keys.specs.KeyTexts.{column_text}
-use Rattle.book_scope_keys.specs.declared.finding.KeyFinding.{KeyFinding}
-use Rattle.book_scope_keys.specs.FieldTexts.{text_shown, whose_text}
-use Rattle.book_scope_keys.specs.FileFindings.{node_data, node_keys, overlap_said}
-use Rattle.book_scope_keys.specs.RowFindings.{keys_in}
+use Rattle.book_cmd_link.specs.KeyTexts.{column_text}
+use Rattle.book_scope_texts.specs.declared.finding.KeyFinding.{KeyFinding}
+use Rattle.book_scope_texts.specs.FieldTexts.{text_shown, whose_text}
+use Rattle.book_scope_texts.specs.FileFindings.{node_data, node_keys, overlap_said}
+use Rattle.book_scope_texts.specs.RowFindings.{keys_in}
 
 -- the row of this number, from 1, of the node that a value is (own)
 abbrev pub row_data : ℕ → Option Data → Option Data

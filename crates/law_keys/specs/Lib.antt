@@ -1,1 +1,2 @@
 pub mod FirstFindings
+pub mod Own

@@ -2,7 +2,7 @@
 ghost use Rattle.std.specs.Prelude.{◌≡◌, ℕ, List, Err};
 ghost use Rattle.book_keys.specs.declared.fault.TableFault.{TableFault};
 ghost use Rattle.book_keys.specs.Nodes.{document_of, tables_of};
-ghost use Rattle.book_scope_keys.specs.FileFindings.{key_findings};
+ghost use Rattle.book_scope_texts.specs.FileFindings.{key_findings};
 ghost use Rattle.law_keys.specs.FirstFindings.{BeginsWith, IsFindingOf};
 
 /// If a key file isn't read, its findings begin with one of the fault: of the fault's node and row, and of the field

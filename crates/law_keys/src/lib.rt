@@ -3,5 +3,9 @@
 #![tactic(auto)]
 
 mod laws;
+mod plan_laws;
 
 pub use laws::first_finding_is_the_fault;
+pub use plan_laws::{
+    accepting_ways_mend, reconfigured_ends_are_aligned, sending_ways_mend, told_ways_mend,
+};

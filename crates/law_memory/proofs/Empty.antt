@@ -8,9 +8,9 @@ use Rattle.book_answer.specs.Commands.{reads_input, reads_keys}
 use Rattle.book_answer.specs.declared.command.Command.{Command}
 use Rattle.book_answer.specs.declared.command.Command.TheVariants as command
 use Rattle.book_base.proofs.TestLaws.{either}
-use Rattle.book_cmd_keys.specs.KeyTexts.{table_fault_line}
-use Rattle.book_cmd_show.specs.Verified.{vectors_of}
-use Rattle.book_cmd_timed.specs.TimedRuns.{expand, most_events}
+use Rattle.book_cmd_link.specs.KeyTexts.{table_fault_line}
+use Rattle.book_cmd_check.specs.Verified.{vectors_of}
+use Rattle.book_cmd_link.specs.TimedRuns.{expand, most_events}
 use Rattle.book_keys.specs.declared.fault.TableFault.{TableFault}
 use Rattle.book_keys.specs.Nodes.{most_keys, tables_of}
 use Rattle.book_keys.specs.Rows.{Table}

@@ -40,11 +40,11 @@ use Rattle.law_link.proofs.Sessions.{both}
 use Rattle.law_link.proofs.Tests.{choose}
 use Rattle.law_link.proofs.Drafts.{sends_fin_says}
 use Rattle.book_segments.proofs.Fields.{and_tells}
-use Rattle.book_cmd_timed.specs.declared.timed.TimedEvent.{TimedEvent}
-use Rattle.book_cmd_timed.specs.declared.timed.TimedEvent.TheVariants.{Plain, Wait}
+use Rattle.book_cmd_link.specs.declared.timed.TimedEvent.{TimedEvent}
+use Rattle.book_cmd_link.specs.declared.timed.TimedEvent.TheVariants.{Plain, Wait}
 use Rattle.std.specs.Option.{option_or}
 use Rattle.book_link.specs.SendFronts.{SendFront, front_of, front_at}
-use Rattle.book_cmd_timed.specs.TimedRuns.{Watch, new_watch, Progress, watch_of, with_watch, started_anew, stopped, sampled_by, watch_by, newly_timed, untimed_by, transmission_of, is_done, is_sent, plain, Expanded, before, reading_at, until, due, after_expiry, expiry, waited, timed_event, expand_from, begins_timed, expand, by_expiry, due_at, expired_then}
+use Rattle.book_cmd_link.specs.TimedRuns.{Watch, new_watch, Progress, watch_of, with_watch, started_anew, stopped, sampled_by, watch_by, newly_timed, untimed_by, transmission_of, is_done, is_sent, plain, Expanded, before, reading_at, until, due, after_expiry, expiry, waited, timed_event, expand_from, begins_timed, expand, by_expiry, due_at, expired_then}
 use Rattle.law_progress.specs.Waits.{WaitsResend}
 use Rattle.law_progress.proofs.Calm.{Calm, AllCalm, AllCalms, is_before, calm_step}
 use Rattle.law_progress.proofs.Finishing.{LeavesIf, closed_arrives, emits_leave, resends_leave}

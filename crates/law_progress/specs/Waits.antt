@@ -7,10 +7,10 @@ use Rattle.book_link.specs.declared.event.Event.{Event}
 use Rattle.book_link.specs.declared.event.Event.TheVariants.{At}
 use Rattle.book_link.specs.declared.event.Action.TheVariants.{Clock, Resend}
 use Rattle.book_link.specs.Worlds.{Setup}
-use Rattle.book_cmd_timed.specs.declared.timed.TimedEvent.TheVariants.{Wait}
+use Rattle.book_cmd_link.specs.declared.timed.TimedEvent.TheVariants.{Wait}
 use Rattle.book_link.specs.SendFronts.{SendFront, front_at}
-use Rattle.book_cmd_timed.specs.TimedRuns.{Progress, reading_at, due_at}
-use Rattle.book_cmd_timed.specs.TimedRuns.{timed_event}
+use Rattle.book_cmd_link.specs.TimedRuns.{Progress, reading_at, due_at}
+use Rattle.book_cmd_link.specs.TimedRuns.{timed_event}
 
 -- so many seconds from now reach to this reading (own)
 abbrev pub Reaches : Progress → End → ℕ → ℕ → Type 0

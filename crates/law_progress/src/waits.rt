@@ -1,8 +1,8 @@
 //! What a wait brings about by itself on a link with retransmission timers.
 ghost use Rattle.std.specs.Prelude.{List};
 ghost use Rattle.book_link.specs.Worlds.{Setup};
-ghost use Rattle.book_cmd_timed.specs.declared.timed.TimedEvent.{TimedEvent};
-ghost use Rattle.book_cmd_timed.specs.TimedRuns.{expand};
+ghost use Rattle.book_cmd_link.specs.declared.timed.TimedEvent.{TimedEvent};
+ghost use Rattle.book_cmd_link.specs.TimedRuns.{expand};
 ghost use Rattle.law_progress.specs.Waits.{WaitsResend};
 
 /// Where something that an end sent isn't acknowledged, and its live session isn't closed, its

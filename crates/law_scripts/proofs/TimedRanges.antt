@@ -6,12 +6,12 @@ use Rattle.std.proofs.lemmas.Bool.{ltb-false}
 use Rattle.book_base.specs.Lines.{lines_of}
 use Rattle.book_lines.specs.Lines.{Line, saying_from}
 use Rattle.book_lines.specs.Words.{end_in, nothing_in, number_in, word_in}
-use Rattle.book_cmd_timed.specs.declared.timed.TimedEvent.{TimedEvent}
-use Rattle.book_cmd_timed.specs.declared.timed.TimedEvent.TheVariants.{Plain, Wait}
-use Rattle.book_cmd_timed.specs.declared.timed.TimedScript.{TimedScript}
+use Rattle.book_cmd_link.specs.declared.timed.TimedEvent.{TimedEvent}
+use Rattle.book_cmd_link.specs.declared.timed.TimedEvent.TheVariants.{Plain, Wait}
+use Rattle.book_cmd_link.specs.declared.timed.TimedScript.{TimedScript}
 use Rattle.book_cmd_link.specs.LinkEvents.{event_named, link_event_of}
 use Rattle.book_cmd_link.specs.LinkFiles.{events_of, link_head_in}
-use Rattle.book_cmd_timed.specs.TimedRuns.{plain_named, timed_event_of, timed_script_in, timed_script_of, wait_of}
+use Rattle.book_cmd_link.specs.TimedRuns.{plain_named, timed_event_of, timed_script_in, timed_script_of, wait_of}
 use Rattle.book_lines.proofs.SayingLaws.{saying_length}
 use Rattle.law_scripts.specs.Timed.{IsTimedEvent, IsTimedScript}
 use Rattle.law_scripts.proofs.WordRanges.{bind_ok, number_ok}

@@ -3,9 +3,9 @@ use Rattle.std.specs.Prelude.{◌≡◌, ◌+◌, ℕ, ◌≤◌, true, List, le
 use Rattle.book_lines.specs.declared.line_kind.LineKind.{LineKind}
 use Rattle.book_lines.specs.Lines.{most_lines}
 use Rattle.book_base.specs.Results.{◌>>=◌}
-use Rattle.book_cmd_timed.specs.declared.timed.TimedEvent.{TimedEvent}
-use Rattle.book_cmd_timed.specs.declared.timed.TimedEvent.TheVariants.{Plain, Wait}
-use Rattle.book_cmd_timed.specs.declared.timed.TimedScript.{TimedScript}
+use Rattle.book_cmd_link.specs.declared.timed.TimedEvent.{TimedEvent}
+use Rattle.book_cmd_link.specs.declared.timed.TimedEvent.TheVariants.{Plain, Wait}
+use Rattle.book_cmd_link.specs.declared.timed.TimedScript.{TimedScript}
 use Rattle.book_cmd_link.specs.LinkEvents.{link_event_of}
 use Rattle.book_segments.specs.Sockets.{are_two_of_a_family}
 use Rattle.law_scripts.specs.Scripts.{IsEvent, IsSocket, IsWithin}

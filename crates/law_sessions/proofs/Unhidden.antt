@@ -17,7 +17,7 @@ use Rattle.book_endpoint.specs.declared.refusal.Refusal.{Refusal}
 use Rattle.book_endpoint.specs.declared.refusal.Refusal.TheVariants.{NoAo, TwoAo, WithMd5, NoTuple, Expired, MacLength, NoContext, Range, BadMac}
 use Rattle.book_endpoint.specs.States.{number_limit}
 use Rattle.book_endpoint.proofs.JudgeSteps.{judge_by_steps, judge_ao, judge_context, judge_mac, judge_number, judge_row}
-use Rattle.book_cmd_show.specs.DatagramTexts.{checksum_in}
+use Rattle.book_cmd_check.specs.DatagramTexts.{checksum_in}
 use Rattle.book_cmd_check.specs.Captures.{Connection, Heard, Saying, Unreadable, UnknownNode, Judged, TooManyConnections, connection_between, hear_at, hear_judged, hear_later, is_pass, judge_later, judge_stored}
 use Rattle.book_sessions.specs.declared.outcome.SegmentOutcome.TheVariants as outcome
 use Rattle.book_sessions.specs.Glimpses.{Opening, glimpsed, is_opened_anew, is_opening_from, is_judged, is_outdated, is_unknown, openings_after, told_anew}

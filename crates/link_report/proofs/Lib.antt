@@ -1,3 +1,13 @@
 pub mod OutcomeLaws
 pub mod SummaryLaws
 pub mod TextLaws
+pub mod ActLaws
+pub mod BeginLaws
+pub mod FitLaws
+pub mod OfferLaws
+pub mod PassLaws
+pub mod SideLaws
+pub mod AccountLaws
+pub mod ContextLaws
+pub mod LogLaws
+pub mod NumberLaws

@@ -7,10 +7,10 @@ use Rattle.book_endpoint.specs.declared.phase.Phase.{Phase}
 use Rattle.book_endpoint.specs.States.{EndState}
 use Rattle.book_link.specs.Reports.{dropped_lines, phase_text, session_lines}
 use Rattle.book_link.specs.Worlds.{Session, LinkSide as EndSide}
-use Rattle.link_side.specs.declared.sessions.Ended.{Ended}
-use Rattle.link_side.specs.declared.sessions.Live.{Live}
-use Rattle.link_side.specs.declared.side.Side.{Side}
-use Rattle.link_side.specs.Sides.{Facts, facts_of, kept_facts, Sessions, StandsSide}
+use Rattle.link_report.specs.declared.sessions.Ended.{Ended}
+use Rattle.link_report.specs.declared.sessions.Live.{Live}
+use Rattle.link_report.specs.declared.side.Side.{Side}
+use Rattle.link_report.specs.Sides.{Facts, facts_of, kept_facts, Sessions, StandsSide}
 use Rattle.tcp_endpoint.specs.Ends.{Stands}
 use Rattle.link_report.specs.Lines.{facts_line, kept_lines}
 

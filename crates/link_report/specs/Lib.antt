@@ -1,2 +1,10 @@
 pub mod Lines
 pub mod Outcomes
+pub mod SideOutcomes
+pub mod Segments
+pub mod Sides
+pub mod Steps
+pub mod Contexts
+pub mod Entries
+pub mod Logs
+pub mod Numbers

@@ -3,7 +3,7 @@ use Rattle.std.specs.Prelude.{ℕ, suc, List, [], ◌∷◌, ◌++◌, length, c
 use Rattle.book_base.specs.declared.end.End.{End}
 use Rattle.book_lines.specs.Texts.{end_text, line_text}
 use Rattle.book_link.specs.Reports.{number_text, shown_text}
-use Rattle.link_side.specs.Sides.{Facts}
+use Rattle.link_report.specs.Sides.{Facts}
 
 -- the line of a session with these facts, at this place of its end's sessions
 abbrev pub facts_line : End → ℕ → List ℕ → Facts → List ℕ

@@ -1,6 +1,6 @@
 -- Which outcome of the definitions a told one shows.
 use Rattle.std.specs.Prelude.{◌≡◌, ℕ, List, [], ◌∷◌, length, ⊤}
-use Rattle.key_coordination.specs.Sendings.{told}
+use Rattle.ao_check.specs.Sendings.{told}
 use Rattle.book_link.specs.Outcomes as book
 use Rattle.book_link.specs.Worlds.{Made as BookMade}
 use Rattle.book_macs.specs.Contexts.{bytes_of}

@@ -6,11 +6,12 @@ ghost use Rattle.book_link.specs.Reports.{number_text, session_lines, shown_text
 ghost use Rattle.book_link.specs.Worlds.{LinkSide as EndSide, World, forgeries as count_of_forgeries};
 ghost use Rattle.book_link.specs.Worlds.{segments as count_of_segments};
 ghost use Rattle.link_report.specs.Lines.{facts_line, kept_lines};
-ghost use Rattle.link_side.specs.Sides.{StandsSide, kept_facts};
+ghost use Rattle.link_report.specs.Sides.{StandsSide, kept_facts};
 
 use crate::outcome::push_known;
+use crate::sessions::Ended;
+use crate::side::Side;
 use book_base::End;
-use link_side::{Ended, Side};
 use segment_words::phase_word;
 use std::alloc::AllocError;
 use text_lines::{push_end, push_field, push_newline, push_number, push_text};

@@ -5,9 +5,9 @@ use Rattle.book_lines.specs.declared.line_kind.LineKind.{LineKind}
 use Rattle.book_lines.specs.declared.line_kind.LineKind.TheVariants.{Word}
 use Rattle.book_lines.specs.Words.{Taken, literal_in, word_in}
 use Rattle.book_base.specs.Results.{◌>>=◌, or_fault}
-use Rattle.book_cmd_timed.specs.declared.timed.TimedEvent.{TimedEvent}
+use Rattle.book_cmd_link.specs.declared.timed.TimedEvent.{TimedEvent}
 use Rattle.book_cmd_link.specs.LinkEvents.{link_event_of}
-use Rattle.book_cmd_timed.specs.TimedRuns.{plain_named, timed_event_of, wait_of}
+use Rattle.book_cmd_link.specs.TimedRuns.{plain_named, timed_event_of, wait_of}
 use Rattle.law_scripts.specs.Timed.{plain_of}
 
 -- what a literal says by whether the word is it

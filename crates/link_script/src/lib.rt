@@ -12,8 +12,7 @@ mod row_lines;
 mod row_texts;
 mod timed;
 
-pub use book_cmd_link::{KeysFrom, Script};
-pub use book_cmd_timed::TimedScript;
+pub use book_cmd_link::{KeysFrom, Script, TimedScript};
 pub use book_lines::TextFault;
 pub use printer::print_script;
 pub use reader::read_script;

@@ -2,13 +2,13 @@
 ghost use Rattle.std.specs.Prelude.{◌≡◌, IfOk};
 ghost use Rattle.text_lines.specs.Readings.{Answers, Tells};
 ghost use Rattle.book_cmd_link.specs.LinkFiles.{event_at, events_of};
-ghost use Rattle.book_cmd_timed.specs.TimedRuns.{timed_event_of, timed_script_of, wait_of};
+ghost use Rattle.book_cmd_link.specs.TimedRuns.{timed_event_of, timed_script_of, wait_of};
 ghost use Rattle.law_scripts.specs.Timed.{IsTimedScript, plain_of};
 
 use super::head::read_head;
 use super::line_events::read_event;
 use super::reader::is_shared;
-use book_cmd_timed::{TimedEvent, TimedEvents, TimedScript};
+use book_cmd_link::{TimedEvent, TimedEvents, TimedScript};
 use book_lines::{LineKind, TextFault};
 use std::alloc::Global;
 use text_lines::{LineWords, Saying, SayingLines, WordProblem, count_lines};
@@ -17,7 +17,7 @@ use text_lines::{LineWords, Saying, SayingLines, WordProblem, count_lines};
 const LONGEST_WAIT: u64 = 3600;
 
 /// The wait that the words behind `wait` make.
-#[tactic(auto, unfolding(book_cmd_timed::specs::TimedRuns::wait_of))]
+#[tactic(auto, unfolding(book_cmd_link::specs::TimedRuns::wait_of))]
 fn wait(words: &mut LineWords) -> Result<TimedEvent, LineKind>
     ensures { result ≡ wait_of words.old }
 {
@@ -68,7 +68,7 @@ fn timed_events(alloc: Global, lines: &mut SayingLines) -> Result<TimedEvents, T
     Ok(TimedEvents::from_vec(events))
 }
 
-#[tactic(auto, unfolding(book_cmd_timed::specs::TimedRuns::timed_script_of, book_cmd_timed::specs::TimedRuns::timed_script_in))]
+#[tactic(auto, unfolding(book_cmd_link::specs::TimedRuns::timed_script_of, book_cmd_link::specs::TimedRuns::timed_script_in))]
 fn timed(alloc: Global, text: &[u8]) -> Result<TimedScript, TextFault>
     ensures { Answers result (timed_script_of text.now) }
 {

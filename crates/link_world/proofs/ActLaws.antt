@@ -7,15 +7,15 @@ use Rattle.book_link.specs.declared.event.Event.TheVariants.{At}
 use Rattle.book_link.specs.Outcomes as book
 use Rattle.book_link.specs.Steps.{Stepped, step}
 use Rattle.book_link.specs.Worlds.{Setup, World, LinkSide as EndSide, Happening, pair_of, other, side as side_of}
-use Rattle.link_log.specs.declared.log.Log.{Log}
-use Rattle.link_log.specs.Logs.{StandsLog, forgery_count, made_count}
+use Rattle.link_report.specs.declared.log.Log.{Log}
+use Rattle.link_report.specs.Logs.{StandsLog, forgery_count, made_count}
 use Rattle.link_report.specs.declared.outcome.Outcome.{Outcome}
 use Rattle.link_report.specs.Outcomes.{Shows}
-use Rattle.link_side.specs.declared.answer.Answer.{Answer}
-use Rattle.link_side.specs.declared.side.Side.{Side}
-use Rattle.link_side.specs.Outcomes.{outcome_of}
-use Rattle.link_side.specs.Sides.{StandsSide}
-use Rattle.link_side.specs.Steps.{Steps}
+use Rattle.link_report.specs.declared.answer.Answer.{Answer}
+use Rattle.link_report.specs.declared.side.Side.{Side}
+use Rattle.link_report.specs.SideOutcomes.{outcome_of}
+use Rattle.link_report.specs.Sides.{StandsSide}
+use Rattle.link_report.specs.Steps.{Steps}
 use Rattle.link_world.specs.Changes.{Follows, HasStepped, Stays, by_event}
 use Rattle.link_world.specs.Links.{StandsAt}
 

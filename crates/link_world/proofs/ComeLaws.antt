@@ -10,7 +10,7 @@ use Rattle.tcp_segment.specs.Sums.{HasPlainHeader}
 use Rattle.book_keys.specs.Rows.{Row}
 use Rattle.book_endpoint.specs.declared.passed.Passed.{Passed}
 use Rattle.book_endpoint.specs.Verdicts.{Finding}
-use Rattle.tcp_options.specs.Views.{view_ao}
+use Rattle.tcp_segment.specs.Views.{view_ao}
 use Rattle.ao_check.specs.declared.passing.Passing.{Passing}
 use Rattle.tcp_endpoint.specs.Arrivals.{OptionIs, TellsOption, TellsPassed, found_of, passed_of}
 use Rattle.tcp_endpoint.specs.declared.arrival.Arrived.{Arrived}
@@ -21,14 +21,14 @@ use Rattle.book_link.specs.declared.event.Action.TheVariants.{Alter, Deliver}
 use Rattle.book_link.specs.Outcomes as book
 use Rattle.book_link.specs.Steps.{Stepped, alter, deliver}
 use Rattle.book_link.specs.Worlds.{Setup, World, Made, Came, Happening, Coming, forged, segment_named, side as side_of}
-use Rattle.link_log.specs.declared.entry.Entry.{Entry}
-use Rattle.link_log.specs.declared.log.Log.{Log}
-use Rattle.link_log.specs.Entries.{IsEntry, PassesUnder}
-use Rattle.link_log.specs.Logs.{StandsLog, forgery_count, made_count}
+use Rattle.link_report.specs.declared.entry.Entry.{Entry}
+use Rattle.link_report.specs.declared.log.Log.{Log}
+use Rattle.link_report.specs.Entries.{IsEntry, PassesUnder}
+use Rattle.link_report.specs.Logs.{StandsLog, forgery_count, made_count}
 use Rattle.link_report.specs.declared.outcome.Outcome.{Outcome}
 use Rattle.link_report.specs.Outcomes.{Shows}
-use Rattle.link_side.specs.declared.side.Side.{Side}
-use Rattle.link_side.specs.Segments.{HasCome}
+use Rattle.link_report.specs.declared.side.Side.{Side}
+use Rattle.link_report.specs.Segments.{HasCome}
 use Rattle.link_world.specs.declared.arrivals.Answered.{Answered}
 use Rattle.link_world.specs.Changes.{HasStepped, by_bytes, by_event}
 use Rattle.link_world.specs.Links.{AreOfEnd, StandsAt}

@@ -30,9 +30,9 @@ use Rattle.tcp_endpoint.specs.declared.arrival.Arrived.{Arrived as Told}
 use Rattle.book_link.specs.Steps.{Act, act_on, add, come, on_live, put, view_of}
 use Rattle.book_link.specs.Worlds.{Setup, pair_of, Session, LinkSide as EndSide, Came, Happening, Making, Coming, World, side}
 use Rattle.law_link.proofs.Tests.{choose}
-use Rattle.link_side.specs.declared.side.Side.{Side}
-use Rattle.link_side.specs.Segments.{IsCome}
-use Rattle.link_log.specs.Entries.{PassesUnder}
+use Rattle.link_report.specs.declared.side.Side.{Side}
+use Rattle.link_report.specs.Segments.{IsCome}
+use Rattle.link_report.specs.Entries.{PassesUnder}
 
 -- ---- how it came
 

@@ -9,16 +9,16 @@ use Rattle.book_link.specs.declared.event.Transmission.{Transmission}
 use Rattle.book_link.specs.Outcomes as book
 use Rattle.book_link.specs.Steps.{Stepped, step}
 use Rattle.book_link.specs.Worlds.{Setup, World, Made, Happening, Making, pair_of, segments, side as side_of}
-use Rattle.link_log.specs.declared.log.Log.{Log}
-use Rattle.link_log.specs.Entries.{IsMade}
-use Rattle.link_log.specs.Logs.{StandsLog, forgery_count, made_count}
-use Rattle.link_log.proofs.LogLaws.{segments_kept}
+use Rattle.link_report.specs.declared.log.Log.{Log}
+use Rattle.link_report.specs.Entries.{IsMade}
+use Rattle.link_report.specs.Logs.{StandsLog, forgery_count, made_count}
+use Rattle.link_report.proofs.LogLaws.{segments_kept}
 use Rattle.link_report.specs.declared.outcome.Outcome.{Outcome}
 use Rattle.link_report.specs.declared.outcome.Outcome.TheVariants as outcome
 use Rattle.link_report.specs.Outcomes.{Shows, TellsMade}
-use Rattle.link_side.specs.declared.side.Side.{Side}
-use Rattle.link_side.specs.Segments.{HasSent, IsQuiet, IsSent, sending}
-use Rattle.link_side.specs.Sides.{StandsSide}
+use Rattle.link_report.specs.declared.side.Side.{Side}
+use Rattle.link_report.specs.Segments.{HasSent, IsQuiet, IsSent, sending}
+use Rattle.link_report.specs.Sides.{StandsSide}
 use Rattle.tcp_endpoint.specs.declared.emission.Emission.{Emission}
 use Rattle.tcp_endpoint.specs.declared.emission.Emission.TheVariants as emissions
 use Rattle.tcp_endpoint.specs.declared.emission.Made.{Made as Told}

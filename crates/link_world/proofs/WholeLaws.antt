@@ -21,7 +21,7 @@ use Rattle.book_macs.proofs.LengthLaws.{length-mac, length-traffic_key}
 use Rattle.tcp_segment.specs.Sums.{HasPlainHeader}
 use Rattle.book_keys.specs.Rows.{Row}
 use Rattle.book_keys.specs.Coordination.{Sending, choose as choose_row}
-use Rattle.key_coordination.proofs.ChoosingLaws.{choose_in}
+use Rattle.ao_check.proofs.ChoosingLaws.{choose_in}
 use Rattle.ao_check.proofs.KeyLaws.{got}
 use Rattle.book_endpoint.specs.States.{EndState}
 use Rattle.book_endpoint.specs.Emissions.{Draft, Emission, Emitted, Quiet, NoKey, Emits, sets, most_bytes, blank, own_ao, input_of, seal_of, sealed, seal_known}
@@ -35,9 +35,9 @@ use Rattle.book_link.specs.Worlds.{Made, World}
 use Rattle.law_link.proofs.Tests.{choose}
 use Rattle.book_base.proofs.TestLaws.{by_bool}
 use Rattle.law_link.proofs.Written.{area_ao, same_input}
-use Rattle.link_side.specs.declared.side.Side.{Side}
-use Rattle.link_side.specs.Segments.{made_by, IsSent}
-use Rattle.link_log.specs.Entries.{IsMade, IsWhole}
+use Rattle.link_report.specs.declared.side.Side.{Side}
+use Rattle.link_report.specs.Segments.{made_by, IsSent}
+use Rattle.link_report.specs.Entries.{IsMade, IsWhole}
 
 -- ---- what is emitted
 

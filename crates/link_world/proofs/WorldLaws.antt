@@ -17,12 +17,12 @@ use Rattle.book_link.specs.Steps.{Stepped, image_of, step}
 use Rattle.book_link.specs.Worlds.{Happening, Setup, World as Both, other, pair_of, first_rows, segment_named, side as side_of}
 use Rattle.both_ends.specs.declared.values.BothEnds.{BothEnds}
 use Rattle.both_ends.specs.Values.{at, with_at}
-use Rattle.link_log.specs.declared.log.Log.{Log}
-use Rattle.link_log.specs.Logs.{StandsLog}
+use Rattle.link_report.specs.declared.log.Log.{Log}
+use Rattle.link_report.specs.Logs.{StandsLog}
 use Rattle.link_report.specs.declared.outcome.Outcome.{Outcome}
 use Rattle.link_report.specs.Outcomes.{AreShown, Shows}
-use Rattle.link_side.specs.declared.side.Side.{Side}
-use Rattle.link_side.specs.Sides.{StandsSide, sockets_of}
+use Rattle.link_report.specs.declared.side.Side.{Side}
+use Rattle.link_report.specs.Sides.{StandsSide, sockets_of}
 use Rattle.link_world.specs.declared.world.World.{World}
 use Rattle.law_link.specs.Laws.{EventFits, AddressesFit, RowFits, SetupFits}
 use Rattle.link_world.specs.Ranges.{IsPlace, SocketsFit}

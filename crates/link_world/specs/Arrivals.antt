@@ -7,8 +7,8 @@ use Rattle.book_link.specs.Worlds.{World, Came, Happening, Coming, forged, other
 use Rattle.link_report.specs.declared.outcome.Outcome.{Outcome}
 use Rattle.link_report.specs.declared.outcome.Outcome.TheVariants as outcome
 use Rattle.link_report.specs.Outcomes.{Shows}
-use Rattle.link_side.specs.declared.side.Side.{Side}
-use Rattle.link_side.specs.Sides.{StandsSide}
+use Rattle.link_report.specs.declared.side.Side.{Side}
+use Rattle.link_report.specs.Sides.{StandsSide}
 use Rattle.link_world.specs.declared.arrivals.Answered.{Answered}
 
 -- the outcome where bytes came, or there was no session

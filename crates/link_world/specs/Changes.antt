@@ -6,12 +6,12 @@ use Rattle.book_link.specs.declared.event.Event.{Event}
 use Rattle.book_link.specs.Steps.{Stepped, come, on_live, step, view_of}
 use Rattle.book_link.specs.Worlds.{Setup, World, LinkSide as EndSide, Happening, other, side as side_of}
 use Rattle.both_ends.specs.declared.values.BothEnds.{BothEnds}
-use Rattle.link_log.specs.declared.log.Log.{Log}
-use Rattle.link_log.specs.Logs.{StandsLog, forgery_count, made_count}
+use Rattle.link_report.specs.declared.log.Log.{Log}
+use Rattle.link_report.specs.Logs.{StandsLog, forgery_count, made_count}
 use Rattle.link_report.specs.declared.outcome.Outcome.{Outcome}
 use Rattle.link_report.specs.Outcomes.{Shows}
-use Rattle.link_side.specs.declared.side.Side.{Side}
-use Rattle.link_side.specs.Sides.{StandsSide, sockets_of}
+use Rattle.link_report.specs.declared.side.Side.{Side}
+use Rattle.link_report.specs.Sides.{StandsSide, sockets_of}
 use Rattle.link_world.specs.Links.{StandsAt, StandsLink}
 
 -- the step of an event

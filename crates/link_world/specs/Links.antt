@@ -4,10 +4,10 @@ use Rattle.book_base.specs.declared.end.End.{End}
 use Rattle.book_link.specs.Worlds.{Setup, World, pair_of, side as side_of}
 use Rattle.both_ends.specs.declared.values.BothEnds.{BothEnds}
 use Rattle.both_ends.specs.Values.{at}
-use Rattle.link_log.specs.declared.log.Log.{Log}
-use Rattle.link_log.specs.Logs.{StandsLog}
-use Rattle.link_side.specs.declared.side.Side.{Side}
-use Rattle.link_side.specs.Sides.{StandsSide, sockets_of}
+use Rattle.link_report.specs.declared.log.Log.{Log}
+use Rattle.link_report.specs.Logs.{StandsLog}
+use Rattle.link_report.specs.declared.side.Side.{Side}
+use Rattle.link_report.specs.Sides.{StandsSide, sockets_of}
 
 -- two ends and a log stand for a world of a link: its two ends, and its history
 pub record StandsLink (sides : BothEnds Side) (log : Log) (setup : Setup) (w : World) : Type 0 where

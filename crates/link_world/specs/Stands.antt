@@ -5,7 +5,7 @@ use Rattle.law_link.specs.Laws.{EventFits, SetupFits}
 use Rattle.book_link.specs.declared.event.Event.{Event}
 use Rattle.book_link.specs.Runs.{empty, outcomes_from, run}
 use Rattle.book_link.specs.Worlds as book
-use Rattle.link_log.specs.Logs.{made_count}
+use Rattle.link_report.specs.Logs.{made_count}
 use Rattle.link_report.specs.Outcomes.{AreShown}
 use Rattle.link_world.specs.declared.setup.Setup.{Setup}
 use Rattle.link_world.specs.declared.world.World.{World}

@@ -1,9 +1,8 @@
 //! What an event answers by which no segment is made and nothing comes.
 ghost use Rattle.link_report.specs.Outcomes.{Shows};
-ghost use Rattle.link_side.specs.Outcomes.{outcome_of};
+ghost use Rattle.link_report.specs.SideOutcomes.{outcome_of};
 
-use link_report::Outcome;
-use link_side::Answer;
+use link_report::{Answer, Outcome};
 
 /// The outcome that an end answered.
 pub(crate) fn told(answer: Answer) -> Outcome

@@ -2,7 +2,7 @@
 ghost use Rattle.std.specs.Prelude.{◌≡◌, ◌<◌, IsTrue, Ok, Err};
 ghost use Rattle.book_link.specs.declared.event.Event.TheVariants.{At};
 ghost use Rattle.book_link.specs.Steps.{step};
-ghost use Rattle.link_log.specs.Logs.{forgery_count, made_count};
+ghost use Rattle.link_report.specs.Logs.{forgery_count, made_count};
 ghost use Rattle.link_world.specs.Events.{CanHappen};
 ghost use Rattle.link_world.specs.Changes.{Acts, Happens, by_event};
 ghost use Rattle.link_world.specs.Links.{AreOfEnd, AreOfLink};
@@ -14,9 +14,7 @@ use crate::texts::dump;
 use book_base::End;
 use book_link::{Action, Event, Transmission};
 use both_ends::BothEnds;
-use link_log::Log;
-use link_report::Outcome;
-use link_side::Side;
+use link_report::{Log, Outcome, Side};
 use std::alloc::{AllocError, Global};
 
 /// An action at its end, with the log of the link.

@@ -1,11 +1,11 @@
 //! Room for the bytes that an outcome carries.
 ghost use Rattle.std.specs.Prelude.{◌≡◌, List, IfOk, length};
 ghost use Rattle.book_link.specs.Worlds.{Happening};
-ghost use Rattle.link_log.specs.Logs.{StandsLog};
+ghost use Rattle.link_report.specs.Logs.{StandsLog};
 ghost use Rattle.link_world.specs.Events.{most_content};
 
 use book_link::{Action, Event};
-use link_log::Log;
+use link_report::Log;
 use std::alloc::{AllocError, Global};
 
 /// The most bytes that the outcome of an event carries.

@@ -1,22 +1,20 @@
 //! The events by which an end makes a segment.
 ghost use Rattle.std.specs.Prelude.{◌≡◌, ◌<◌, ◌≤◌, length};
 ghost use Rattle.book_base.specs.declared.end.End.{End};
-ghost use Rattle.link_log.specs.Logs.{made_count};
+ghost use Rattle.link_report.specs.Logs.{made_count};
 ghost use Rattle.book_link.specs.declared.event.Event.TheVariants.{At};
 ghost use Rattle.book_link.specs.Steps.{step};
 ghost use Rattle.book_link.specs.Worlds.{Setup, World, pair_of, side as side_of};
 ghost use Rattle.link_report.specs.Outcomes.{Shows};
-ghost use Rattle.link_side.specs.Segments.{HasSent, length_sent, quiet, sending};
-ghost use Rattle.link_side.specs.Sides.{StandsSide, sockets_of};
+ghost use Rattle.link_report.specs.Segments.{HasSent, length_sent, quiet, sending};
+ghost use Rattle.link_report.specs.Sides.{StandsSide, sockets_of};
 ghost use Rattle.link_world.specs.Changes.{Acts, by_event};
 ghost use Rattle.link_world.specs.Links.{AreOfEnd};
 
 use ao_base::Steps;
 use book_base::{Bytes, End};
 use book_link::Transmission;
-use link_log::Log;
-use link_report::Outcome;
-use link_side::Side;
+use link_report::{Log, Outcome, Side};
 use std::alloc::{AllocError, Global};
 use std::marker::Brand;
 use std::sync::ledger::{Blank, Ledger};

@@ -5,15 +5,15 @@ ghost use Rattle.book_link.specs.declared.event.Event.{Event as Happening};
 ghost use Rattle.book_link.specs.Runs.{run};
 ghost use Rattle.book_link.specs.SendFronts.{front_at};
 ghost use Rattle.book_link.specs.Worlds.{Session, Setup as Link, forgeries, live, segment_named, segments, side};
-ghost use Rattle.link_log.specs.Logs.{MadeBy};
-ghost use Rattle.link_side.specs.Sides.{StandsSide};
+ghost use Rattle.link_report.specs.Logs.{MadeBy};
+ghost use Rattle.link_report.specs.Sides.{StandsSide};
 ghost use Rattle.tcp_endpoint.specs.Ends.{Stands};
 ghost use Rattle.link_world.specs.Fronts.{front_of};
 
 use crate::front::Front;
 use crate::world::World;
 use book_base::End;
-use link_side::Side;
+use link_report::Side;
 use tcp_endpoint::{Endpoint, Phase};
 
 impl World {

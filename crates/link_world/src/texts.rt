@@ -5,13 +5,12 @@ ghost use Rattle.book_link.specs.Steps.{image_of};
 ghost use Rattle.book_link.specs.Reports.{report, summary};
 ghost use Rattle.book_link.specs.Runs.{run};
 ghost use Rattle.book_link.specs.Worlds.{Happening as Entry, Setup as Link, segment_named};
-ghost use Rattle.link_log.specs.Logs.{StandsLog};
+ghost use Rattle.link_report.specs.Logs.{StandsLog};
 ghost use Rattle.link_report.specs.Outcomes.{Shows};
 
 use crate::world::World;
 use book_base::Bytes;
-use link_log::Log;
-use link_report::{Outcome, push_outcomes, push_summary};
+use link_report::{Log, Outcome, push_outcomes, push_summary};
 use std::alloc::{AllocError, Global};
 
 /// Shows the segment of this name: a copy of its bytes.

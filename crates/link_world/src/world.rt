@@ -10,7 +10,7 @@ ghost use Rattle.law_link.specs.Headline.{few_events};
 ghost use Rattle.law_link.specs.Laws.{TablesFit};
 ghost use Rattle.law_headline.specs.GetsThrough.{GetsThrough};
 ghost use Rattle.law_headline.specs.Lawful.{Lawful};
-ghost use Rattle.link_log.specs.Logs.{forgery_count, made_count};
+ghost use Rattle.link_report.specs.Logs.{forgery_count, made_count};
 ghost use Rattle.link_report.specs.Outcomes.{AreShown, Shows};
 ghost use Rattle.link_world.specs.Events.{CanHappen};
 ghost use Rattle.link_world.specs.Links.{AreOfLink};
@@ -22,9 +22,7 @@ use crate::setup::{Setup, take_table};
 use book_base::Pair;
 use book_link::Event;
 use both_ends::BothEnds;
-use link_log::Log;
-use link_report::Outcome;
-use link_side::Side;
+use link_report::{Log, Outcome, Side};
 use std::alloc::{AllocError, Global};
 
 /// A link between two ends: all that happened, and what each event answered.

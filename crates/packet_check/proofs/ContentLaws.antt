@@ -13,9 +13,9 @@ use Rattle.book_sessions.specs.AsSent.{lacks_checksum, mended, told_fault}
 use Rattle.book_sessions.specs.CutOff.{cut_segment}
 use Rattle.book_sessions.specs.OutcomeTexts.{passed_text}
 use Rattle.book_sessions.specs.Sessions.{captured_of_packet, judged_of, stored_of_packet}
-use Rattle.book_scope_check.specs.declared.class.PacketClass.{PacketClass}
-use Rattle.book_scope_check.specs.CheckedLines.{content_texts, dash_texts, seen_time_text, segment_texts}
-use Rattle.book_scope_check.specs.CheckedPackets.{OfNothing, OfSegment, checked_content, checked_fault, checked_reading, class_by, class_without, is_foreign_segment}
+use Rattle.book_sessions.specs.declared.class.PacketClass.{PacketClass}
+use Rattle.book_sessions.specs.CheckedLines.{content_texts, dash_texts, seen_time_text, segment_texts}
+use Rattle.book_sessions.specs.CheckedPackets.{OfNothing, OfSegment, checked_content, checked_fault, checked_reading, class_by, class_without, is_foreign_segment}
 use Rattle.capture_check.specs.declared.answer.CheckLine.{CheckLine}
 use Rattle.capture_check.specs.declared.answer.CheckLine.TheVariants as line
 use Rattle.capture_check.specs.declared.flows.Flows.{Flows}

@@ -10,9 +10,9 @@ use Rattle.book_captures.specs.declared.capture_parts.CaptureFault.{CaptureFault
 use Rattle.book_captures.specs.Captures.{CapturePacket, capture_of}
 use Rattle.book_cmd_check.specs.declared.given.GivenIsns.{GivenIsns}
 use Rattle.book_cmd_check.specs.Handshakes.{given_after}
-use Rattle.book_scope_check.specs.CheckedLines.{check_lines, check_text, is_amiss, total_line}
-use Rattle.book_scope_check.specs.CheckedPackets.{checked_packets, classes_of}
-use Rattle.capture_stream.specs.Reads.{Reading, new_reading}
+use Rattle.book_sessions.specs.CheckedLines.{check_lines, check_text, is_amiss, total_line}
+use Rattle.book_sessions.specs.CheckedPackets.{checked_packets, classes_of}
+use Rattle.capture_walk.specs.Reads.{Reading, new_reading}
 use Rattle.capture_walk.specs.declared.walking.WalkEnd.{WalkEnd}
 use Rattle.capture_walk.specs.declared.walking.WalkEnd.TheVariants as end
 use Rattle.capture_walk.specs.declared.walking.WalkHalt.{WalkHalt}

@@ -8,9 +8,9 @@ use Rattle.book_keys.specs.Rows.{Table}
 use Rattle.book_captures.specs.Captures.{CapturePacket}
 use Rattle.book_cmd_check.specs.Captures.{Connection}
 use Rattle.book_sessions.specs.Sessions.{stored_of_packet}
-use Rattle.book_scope_check.specs.declared.class.PacketClass.{PacketClass}
-use Rattle.book_scope_check.specs.CheckedLines.{checked_line, is_foreign_class, listed_line, listed_lines}
-use Rattle.book_scope_check.specs.CheckedPackets.{CheckedPacket, checked_from, checked_packet, class_of, classes_of, held_after}
+use Rattle.book_sessions.specs.declared.class.PacketClass.{PacketClass}
+use Rattle.book_sessions.specs.CheckedLines.{checked_line, is_foreign_class, listed_line, listed_lines}
+use Rattle.book_sessions.specs.CheckedPackets.{CheckedPacket, checked_from, checked_packet, class_of, classes_of, held_after}
 use Rattle.capture_check.specs.declared.flows.Flows.{Flows}
 use Rattle.capture_walk.specs.declared.hearer.Heard.{Heard}
 use Rattle.capture_walk.specs.declared.hearer.HearHalt.{HearHalt}

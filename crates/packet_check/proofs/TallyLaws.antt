@@ -5,10 +5,10 @@ use Rattle.std.proofs.lemmas.List.{append-nil, length-append}
 use Rattle.std.proofs.lemmas.List.Elements.{filter-append}
 use Rattle.std.proofs.lemmas.List.Folds.{list_any-append}
 use Rattle.std.specs.List.{filter, list_any}
-use Rattle.book_scope_check.specs.declared.class.PacketClass.{PacketClass}
+use Rattle.book_sessions.specs.declared.class.PacketClass.{PacketClass}
 use Rattle.book_lines.specs.Texts.{line_text, spaced}
-use Rattle.book_scope_check.proofs.Totals.{numbers_counted}
-use Rattle.book_scope_check.specs.CheckedLines.{are_amiss, class_count, is_amiss_class, is_foreign_class, is_other_class, is_passing_class, is_refused_class, total_line}
+use Rattle.book_sessions.proofs.Totals.{numbers_counted}
+use Rattle.book_sessions.specs.CheckedLines.{are_amiss, class_count, is_amiss_class, is_foreign_class, is_other_class, is_passing_class, is_refused_class, total_line}
 use Rattle.packet_check.specs.declared.tally.Tally.{Tally}
 use Rattle.packet_check.specs.Tallies.{Tallies}
 use Rattle.packet_check.proofs.ContentLaws.{spaced_append}

@@ -7,10 +7,10 @@ use Rattle.book_captures.specs.Captures.{CapturePacket}
 use Rattle.book_cmd_check.specs.Captures.{Connection, Stored}
 use Rattle.book_sessions.specs.declared.outcome.PassedOver.{PassedOver}
 use Rattle.book_sessions.specs.Sessions.{stored_of_packet}
-use Rattle.book_scope_check.specs.declared.class.PacketClass.{PacketClass}
-use Rattle.book_scope_check.specs.CheckedLines.{checked_line, content_texts}
-use Rattle.book_scope_check.specs.CheckedPackets.{CheckedContent, checked_content, checked_packet}
-use Rattle.book_scope_check.specs.CheckedPackets.{class_of, held_after}
+use Rattle.book_sessions.specs.declared.class.PacketClass.{PacketClass}
+use Rattle.book_sessions.specs.CheckedLines.{checked_line, content_texts}
+use Rattle.book_sessions.specs.CheckedPackets.{CheckedContent, checked_content, checked_packet}
+use Rattle.book_sessions.specs.CheckedPackets.{class_of, held_after}
 use Rattle.capture_check.specs.declared.flows.Flows.{Flows}
 use Rattle.capture_check.specs.Checkers.{StandsFor}
 use Rattle.packet_check.specs.declared.shown.StoredBytes.{StoredBytes}

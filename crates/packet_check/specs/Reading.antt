@@ -12,14 +12,14 @@ use Rattle.book_cmd_check.specs.declared.given.GivenIsns.{GivenIsns}
 use Rattle.book_cmd_check.specs.Captures.{Connection}
 use Rattle.book_cmd_check.specs.Handshakes.{given_after}
 use Rattle.book_sessions.specs.Sessions.{stored_of_packet}
-use Rattle.book_scope_check.specs.declared.class.PacketClass.{PacketClass}
-use Rattle.book_scope_check.specs.CheckedLines.{are_amiss, check_lines, check_text, is_amiss}
-use Rattle.book_scope_check.specs.CheckedLines.{listed_line, listed_lines, total_line}
-use Rattle.book_scope_check.specs.CheckedPackets.{checked_from, checked_packet, class_of}
-use Rattle.book_scope_check.specs.CheckedPackets.{classes_of, held_after}
+use Rattle.book_sessions.specs.declared.class.PacketClass.{PacketClass}
+use Rattle.book_sessions.specs.CheckedLines.{are_amiss, check_lines, check_text, is_amiss}
+use Rattle.book_sessions.specs.CheckedLines.{listed_line, listed_lines, total_line}
+use Rattle.book_sessions.specs.CheckedPackets.{checked_from, checked_packet, class_of}
+use Rattle.book_sessions.specs.CheckedPackets.{classes_of, held_after}
 use Rattle.capture_check.specs.declared.flows.Flows.{Flows}
 use Rattle.capture_check.specs.Checkers.{StandsFor}
-use Rattle.capture_stream.specs.Reads.{most_buffered, most_read}
+use Rattle.capture_walk.specs.Reads.{most_buffered, most_read}
 use Rattle.capture_walk.specs.HasRead.{HasRead}
 use Rattle.capture_walk.specs.declared.walking.WalkHalt.{WalkHalt}
 use Rattle.capture_walk.specs.declared.walking.WalkHalt.TheVariants as halt

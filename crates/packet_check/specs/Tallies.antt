@@ -1,9 +1,9 @@
 -- How many packets count as what, as the machine holds it (own).
 use Rattle.std.specs.Prelude.{◌≡◌, List}
 use Rattle.std.specs.List.{list_any}
-use Rattle.book_scope_check.specs.declared.class.PacketClass.{PacketClass}
-use Rattle.book_scope_check.specs.CheckedLines.{class_count, is_amiss_class, is_foreign_class}
-use Rattle.book_scope_check.specs.CheckedLines.{is_other_class, is_passing_class, is_refused_class}
+use Rattle.book_sessions.specs.declared.class.PacketClass.{PacketClass}
+use Rattle.book_sessions.specs.CheckedLines.{class_count, is_amiss_class, is_foreign_class}
+use Rattle.book_sessions.specs.CheckedLines.{is_other_class, is_passing_class, is_refused_class}
 use Rattle.packet_check.specs.declared.tally.Tally.{Tally}
 
 -- the tally is that of packets that count as these

@@ -1,7 +1,7 @@
 //! The lines of a capture that is checked, each written before the next packet is read.
 ghost use Rattle.std.specs.Prelude.{◌≡◌, ℕ, List};
 ghost use Rattle.ao_base.specs.Outside.{Side};
-ghost use Rattle.book_scope_check.specs.declared.class.PacketClass.{PacketClass};
+ghost use Rattle.book_sessions.specs.declared.class.PacketClass.{PacketClass};
 ghost use Rattle.packet_check.specs.Reading.{Checks, EndsTotal};
 ghost use Rattle.packet_check.specs.Tallies.{Tallies};
 
@@ -9,8 +9,7 @@ use crate::packets::PacketChecker;
 use crate::tally::Tally;
 use ao_base::{Failed, Sink, Source, write_all};
 use book_sessions::GivenIsns;
-use capture_stream::{CaptureFault, CaptureReader};
-use capture_walk::{WalkHalt, walk};
+use capture_walk::{CaptureFault, CaptureReader, WalkHalt, walk};
 use key_table::Tables;
 use std::alloc::Global;
 

@@ -1,16 +1,14 @@
 //! What a packet counts as.
 ghost use Rattle.std.specs.Prelude.{◌≡◌};
-ghost use Rattle.book_scope_check.specs.CheckedLines.{is_foreign_class};
-ghost use Rattle.book_scope_check.specs.CheckedPackets.{class_by, class_without, is_foreign_segment};
+ghost use Rattle.book_sessions.specs.CheckedLines.{is_foreign_class};
+ghost use Rattle.book_sessions.specs.CheckedPackets.{class_by, class_without, is_foreign_segment};
 ghost use Rattle.book_sessions.specs.Foreign.{is_of_node};
 
 use book_base::Address;
-use book_scope_check::PacketClass;
-use book_sessions::{PassedCount, PassedOver};
+use book_sessions::{PacketClass, PassedCount, PassedOver};
+use capture_listener::has_doubtful;
 use key_table::Tables;
-use scope_retiring::has_doubtful;
-use tcp_options::AoFound;
-use tcp_segment::Datagram;
+use tcp_segment::{AoFound, Datagram};
 
 fn is_of_node(tables: &Tables, address: &Address) -> bool
     ensures { result ≡ is_of_node tables.now address.now }

@@ -1,7 +1,7 @@
 //! The front of a packet's line: its number, when it was seen, the sockets and the key ids of its segment.
 ghost use Rattle.std.specs.Prelude.{◌≡◌, ◌++◌, ◌∷◌, [], OnOk, decimal};
 ghost use Rattle.book_lines.specs.Texts.{spaced};
-ghost use Rattle.book_scope_check.specs.CheckedLines.{dash_texts, key_id_texts, seen_time_text, segment_texts};
+ghost use Rattle.book_sessions.specs.CheckedLines.{dash_texts, key_id_texts, seen_time_text, segment_texts};
 ghost use Rattle.book_scope_texts.specs.Addresses.{usual_address_text};
 ghost use Rattle.book_sessions.specs.SessionTexts.{id_text};
 

@@ -1,14 +1,14 @@
 //! How many packets count as what.
 ghost use Rattle.std.specs.Prelude.{◌≡◌, ◌+◌, ◌++◌, ◌∷◌, ◌||◌, [], IfOk, List, OnOk, codes, decimal, if◌then◌else◌};
 ghost use Rattle.book_lines.specs.Texts.{spaced};
-ghost use Rattle.book_scope_check.specs.declared.class.PacketClass.{PacketClass};
-ghost use Rattle.book_scope_check.specs.CheckedLines.{are_amiss, is_amiss_class, is_foreign_class, is_other_class};
-ghost use Rattle.book_scope_check.specs.CheckedLines.{is_passing_class, is_refused_class, total_line};
+ghost use Rattle.book_sessions.specs.declared.class.PacketClass.{PacketClass};
+ghost use Rattle.book_sessions.specs.CheckedLines.{are_amiss, is_amiss_class, is_foreign_class, is_other_class};
+ghost use Rattle.book_sessions.specs.CheckedLines.{is_passing_class, is_refused_class, total_line};
 ghost use Rattle.packet_check.specs.Tallies.{Tallies};
 
 use crate::class::is_foreign;
 use ao_base::push_decimal;
-use book_scope_check::PacketClass;
+use book_sessions::PacketClass;
 use std::alloc::AllocError;
 use text_lines::{push_field, push_newline};
 

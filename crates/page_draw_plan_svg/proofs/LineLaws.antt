@@ -5,10 +5,10 @@ use Rattle.std.proofs.lemmas.List.{append-nil}
 use Rattle.std.proofs.lemmas.List.Concat.{flat_map-append}
 use Rattle.book_base.specs.declared.address.Address.{Address}
 use Rattle.book_base.specs.declared.address.Pair.{Pair}
-use Rattle.book_draw_plan.specs.declared.bar.Bar.{Bar}
-use Rattle.book_draw_plan.specs.BarOrders.{bars_of}
-use Rattle.book_draw_plan.specs.Bars.{bar_line, bar_text, both_bars, drawing_text, drawings_text, good_plans, nodes_bars, scale_line, summary_line, wrong_bytes, wrong_text}
-use Rattle.book_draw_plan.specs.Slices.{slices_of}
+use Rattle.book_scope_plan.specs.declared.bar.Bar.{Bar}
+use Rattle.book_scope_plan.specs.BarOrders.{bars_of}
+use Rattle.book_scope_plan.specs.Bars.{bar_line, bar_text, both_bars, drawing_text, drawings_text, good_plans, nodes_bars, scale_line, summary_line, wrong_bytes, wrong_text}
+use Rattle.book_scope_plan.specs.Slices.{slices_of}
 use Rattle.page_draw_plan_svg.specs.PlanLines.{PlannedPair, PlanLine, Barred, Wrong, both_lines, drawing_lines, drawings_lines, plan_line_text, missing_lines, planned_lines, wrong_lines}
 use Rattle.book_keys.specs.declared.plan.Plan.{Plan}
 use Rattle.book_keys.specs.Rows.{Table}

@@ -3,13 +3,13 @@ use Rattle.std.proofs.Common.{◌≡◌, ◌↔◌, ℕ, ◌+◌, ◌-◌, ◌*�
 use Rattle.std.proofs.lemmas.Bool.Decides.{nat_tests}
 use Rattle.std.proofs.Math.Nat.{div-mul-le_self, le-div_iff_mul-le, mul-div_cancel_left, zero-div}
 use Rattle.book_base.specs.declared.address.Pair.{Pair}
-use Rattle.book_draw_plan.specs.declared.duty.Duty.{Duty}
-use Rattle.book_draw_plan.specs.declared.duty.Duty.TheVariants.{Accepts, Sends}
-use Rattle.book_draw_plan.specs.declared.slice.Slice.{Slice}
-use Rattle.book_draw_plan.specs.BarOrders.{is_doing}
-use Rattle.book_draw_plan.specs.Bars.{is_seen, may_send_in, pair_at}
-use Rattle.book_draw_plan.specs.Slices.{any_passes, slice_between, times_in}
-use Rattle.book_draw_plan.proofs.MarkLaws.{sends_in, within_exactly}
+use Rattle.book_scope_plan.specs.declared.duty.Duty.{Duty}
+use Rattle.book_scope_plan.specs.declared.duty.Duty.TheVariants.{Accepts, Sends}
+use Rattle.book_scope_plan.specs.declared.slice.Slice.{Slice}
+use Rattle.book_scope_plan.specs.BarOrders.{is_doing}
+use Rattle.book_scope_plan.specs.Bars.{is_seen, may_send_in, pair_at}
+use Rattle.book_scope_plan.specs.Slices.{any_passes, slice_between, times_in}
+use Rattle.book_scope_plan.proofs.MarkLaws.{sends_in, within_exactly}
 use Rattle.page_draw_plan_svg.specs.Spans.{IsWithin, bar_span, common_span, finding_span, sending_span, time_column}
 use Rattle.book_keys.specs.declared.lifetime.Lifetime.{Lifetime}
 use Rattle.book_keys.specs.Lifetimes.{contains}

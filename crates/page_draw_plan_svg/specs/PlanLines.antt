@@ -4,10 +4,10 @@ use Rattle.std.specs.Prelude.{ℕ, List, [], ◌∷◌, ◌++◌, flat_map, map,
 use Rattle.std.specs.Prelude.{if◌then◌else◌}
 use Rattle.book_base.specs.declared.address.Address.{Address}
 use Rattle.book_base.specs.declared.address.Pair.{Pair}
-use Rattle.book_draw_plan.specs.declared.bar.Bar.{Bar}
-use Rattle.book_draw_plan.specs.BarOrders.{bars_of}
-use Rattle.book_draw_plan.specs.Bars.{bar_line, bar_text, scale_line, wrong_bytes}
-use Rattle.book_draw_plan.specs.Slices.{slices_of}
+use Rattle.book_scope_plan.specs.declared.bar.Bar.{Bar}
+use Rattle.book_scope_plan.specs.BarOrders.{bars_of}
+use Rattle.book_scope_plan.specs.Bars.{bar_line, bar_text, scale_line, wrong_bytes}
+use Rattle.book_scope_plan.specs.Slices.{slices_of}
 use Rattle.book_keys.specs.declared.plan.Plan.{Plan}
 use Rattle.book_keys.specs.Rows.{Table}
 use Rattle.book_lines.specs.Said.{Said}

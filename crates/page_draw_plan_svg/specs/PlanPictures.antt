@@ -4,12 +4,12 @@ use Rattle.std.specs.Prelude.{ℕ, zero, suc, ◌+◌, ◌-◌, ◌*◌, ◌/◌
 use Rattle.std.specs.Prelude.{false, List, [], ◌∷◌, ◌++◌, length, flat_map, codes, decimal, Option}
 use Rattle.std.specs.Prelude.{Some, None, if◌then◌else◌}
 use Rattle.book_base.specs.declared.address.Pair.{Pair}
-use Rattle.book_draw_plan.specs.declared.duty.Duty.{Duty}
-use Rattle.book_draw_plan.specs.declared.duty.Duty.TheVariants.{Accepts, Sends}
-use Rattle.book_draw_plan.specs.declared.slice.Slice.{Slice}
-use Rattle.book_draw_plan.specs.BarOrders.{plan_time}
-use Rattle.book_draw_plan.specs.Bars.{ShownBar, duty_id, duty_text, good_plans, shown_bar}
-use Rattle.book_draw_plan.specs.Bars.{summary_words}
+use Rattle.book_scope_plan.specs.declared.duty.Duty.{Duty}
+use Rattle.book_scope_plan.specs.declared.duty.Duty.TheVariants.{Accepts, Sends}
+use Rattle.book_scope_plan.specs.declared.slice.Slice.{Slice}
+use Rattle.book_scope_plan.specs.BarOrders.{plan_time}
+use Rattle.book_scope_plan.specs.Bars.{ShownBar, duty_id, duty_text, good_plans, shown_bar}
+use Rattle.book_scope_plan.specs.Bars.{summary_words}
 use Rattle.page_draw_plan_svg.specs.declared.unit.DateUnit.{DateUnit}
 use Rattle.page_draw_plan_svg.specs.Dates.{date_text, is_dated, unit_for, unit_step}
 use Rattle.page_draw_plan_svg.specs.PlanLines.{PlannedPair, PlanLine, Barred, Missing, Named}

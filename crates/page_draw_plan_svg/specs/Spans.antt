@@ -3,11 +3,11 @@
 use Rattle.std.specs.Prelude.{ℕ, ◌+◌, ◌-◌, ◌*◌, ◌/◌, ◌≤◌, ◌&&◌, max, min, nat_le, Bool, Option}
 use Rattle.std.specs.Prelude.{Some, None, if◌then◌else◌}
 use Rattle.book_base.specs.declared.address.Pair.{Pair}
-use Rattle.book_draw_plan.specs.declared.duty.Duty.{Duty}
-use Rattle.book_draw_plan.specs.declared.duty.Duty.TheVariants.{Accepts, Sends}
-use Rattle.book_draw_plan.specs.declared.slice.Slice.{Slice}
-use Rattle.book_draw_plan.specs.Bars.{pair_at}
-use Rattle.book_draw_plan.specs.Slices.{slice_between}
+use Rattle.book_scope_plan.specs.declared.duty.Duty.{Duty}
+use Rattle.book_scope_plan.specs.declared.duty.Duty.TheVariants.{Accepts, Sends}
+use Rattle.book_scope_plan.specs.declared.slice.Slice.{Slice}
+use Rattle.book_scope_plan.specs.Bars.{pair_at}
+use Rattle.book_scope_plan.specs.Slices.{slice_between}
 use Rattle.book_keys.specs.declared.lifetime.Lifetime.{Lifetime}
 use Rattle.book_keys.specs.Rows.{Row, Table, matches, receives, sends_for}
 use Rattle.book_plans.specs.declared.finding.Finding.{Finding}

@@ -1,11 +1,11 @@
 //! Theorems about the pictures of plans, as clauses of functions that do nothing.
 ghost use Rattle.std.specs.Prelude.{◌≡◌, ◌↔◌, ◌≤◌, ◌+◌, ◌++◌, ℕ, List, length, flat_map, true};
 ghost use Rattle.book_base.specs.declared.address.Pair.{Pair};
-ghost use Rattle.book_draw_plan.specs.declared.duty.Duty.{Duty as Doing};
-ghost use Rattle.book_draw_plan.specs.declared.slice.Slice.{Slice as Part};
-ghost use Rattle.book_draw_plan.specs.BarOrders.{is_doing};
-ghost use Rattle.book_draw_plan.specs.Bars.{drawings_text, good_plans, is_seen, summary_line};
-ghost use Rattle.book_draw_plan.specs.Slices.{slice_between};
+ghost use Rattle.book_scope_plan.specs.declared.duty.Duty.{Duty as Doing};
+ghost use Rattle.book_scope_plan.specs.declared.slice.Slice.{Slice as Part};
+ghost use Rattle.book_scope_plan.specs.BarOrders.{is_doing};
+ghost use Rattle.book_scope_plan.specs.Bars.{drawings_text, good_plans, is_seen, summary_line};
+ghost use Rattle.book_scope_plan.specs.Slices.{slice_between};
 ghost use Rattle.page_draw_plan_svg.specs.PlanLines.{drawings_lines, plan_line_text};
 ghost use Rattle.page_draw_plan_svg.specs.Spans.{IsWithin, bar_span, finding_span, time_column};
 ghost use Rattle.book_keys.specs.declared.plan.Plan.{Plan};

@@ -3,8 +3,12 @@
 //! carries theorems about them.
 #![tactic(auto)]
 
+mod form;
 mod laws;
 mod placed;
+mod session_laws;
 
+pub use form::LadderForm;
 pub use laws::elements_are_those_of_the_run;
 pub use placed::{Form, Placed, Start, Stroke};
+pub use session_laws::elements_are_those_of_the_session;

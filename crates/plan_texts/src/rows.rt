@@ -7,7 +7,7 @@ ghost use Rattle.book_scope_plan.specs.CalendarTexts.{row_numbered};
 use crate::names::admin_name;
 use ao_base::push_decimal;
 use key_table::{Row, Table};
-use scope_key_texts::push_shown_text;
+use scope_texts::push_shown_text;
 use std::alloc::{AllocError, Global};
 
 /// Puts what the operator calls a row behind `out`, where it is named. Where memory runs out a part of it may

@@ -5,7 +5,7 @@ ghost use Rattle.bgp_messages.specs.Readers.{new_reading};
 use bgp_messages::BgpReader;
 use book_base::{Address, Algorithm};
 use both_ends::BothEnds;
-use cmd_bgp::run_bgp;
+use cmd_link::run_bgp;
 use key_table::Tables;
 use link_script::{KeysFrom, read_script};
 use link_world::Setup;

@@ -1,12 +1,12 @@
 //! The timers that a run was lent, and how many plain events a run has at most.
 use book_base::{Address, Algorithm};
 use both_ends::BothEnds;
-use cmd_timed::{TimedRun, answer, run_timed};
+use cmd_link::{TimedRun, answer_timed, run_timed};
 use command_report::Stop;
 use key_table::Tables;
 use link_script::read_timed;
 use link_world::Setup;
-use rto_timer::Rto;
+use stack_timers::Rto;
 use std::alloc::{AllocError, Global};
 use std::test::Fail;
 
@@ -90,7 +90,7 @@ fn waits_and(alloc: Global, others: usize) -> Result<Vec<u8>, AllocError> {
 
 /// Whether a link file has a report; else whether its plain events are too many.
 fn is_reported(alloc: Global, text: &[u8]) -> Result<Option<bool>, AllocError> {
-    match answer(alloc, tables(alloc)?, text) {
+    match answer_timed(alloc, tables(alloc)?, text) {
         Ok(_) => Ok(Some(true)),
         Err(Stop::TooManyEvents) => Ok(Some(false)),
         Err(_) => Ok(None),

@@ -11,10 +11,10 @@ ghost use Rattle.link_world.specs.Events.{CanHappen};
 ghost use Rattle.link_world.specs.Stands.{setup_of};
 ghost use Rattle.scope_draw.specs.Forms.{drawing, drawn, drawn_by_shared};
 
+use crate::picture::draw_rungs_as;
+use crate::runs::rungs_of;
 use book_link::Event;
 use command_report::{Report, Stop};
-use draw_rungs::rungs_of;
-use draw_svg::draw_rungs_as;
 use key_table::Tables;
 use link_script::{KeysFrom, Script, read_script};
 use link_world::Setup;

@@ -14,12 +14,12 @@ use Rattle.book_keys.specs.declared.fault.TableFault.TheVariants as fault
 use Rattle.book_keys.specs.Nodes.{document_of, tables_of, tables_of_document}
 use Rattle.book_keys.specs.Reading.{Fails}
 use Rattle.book_keys.specs.Rows.{Table}
-use Rattle.book_scope_keys.specs.declared.finding.KeyFinding.{KeyFinding}
-use Rattle.book_scope_keys.specs.declared.finding.TomlFault.{TomlFault}
-use Rattle.book_scope_keys.specs.FileFindings.{addresses_with, field_findings, first_or_further, has_nodes, key_findings, key_place, key_report, key_report_of, names_with, no_faults_line, no_nodes_line, node_findings, nodes_findings_from, refused_findings, row_total, rows_findings_from, syntax_line, tables_line}
-use Rattle.book_scope_keys.specs.Places.{key_finding_line}
-use Rattle.book_scope_keys.specs.RowFindings.{row_findings}
-use Rattle.book_scope_keys.proofs.WalkLaws.{findings_exact}
+use Rattle.book_scope_texts.specs.declared.finding.KeyFinding.{KeyFinding}
+use Rattle.book_scope_texts.specs.declared.finding.TomlFault.{TomlFault}
+use Rattle.book_scope_texts.specs.FileFindings.{addresses_with, field_findings, first_or_further, has_nodes, key_findings, key_place, key_report, key_report_of, names_with, no_faults_line, no_nodes_line, node_findings, nodes_findings_from, refused_findings, row_total, rows_findings_from, syntax_line, tables_line}
+use Rattle.book_scope_texts.specs.Places.{key_finding_line}
+use Rattle.book_scope_texts.specs.RowFindings.{row_findings}
+use Rattle.book_scope_texts.proofs.WalkLaws.{findings_exact}
 use Rattle.scope_keys.specs.Reports.{is_memory}
 
 -- one row more

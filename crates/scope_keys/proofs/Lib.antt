@@ -1,3 +1,5 @@
 pub mod FileLaws
 pub mod SaidLaws
 pub mod SeenLaws
+pub mod FoundLaws
+pub mod ReadLaws

@@ -5,7 +5,7 @@ use Rattle.std.specs.Str.{bytes_eq}
 use Rattle.book_base.specs.declared.address.Address.{Address}
 use Rattle.book_keys.specs.Rows.{has_address}
 use Rattle.book_segments.specs.Sockets.{same_address}
-use Rattle.book_scope_keys.specs.FileFindings.{bare_table, table_named}
+use Rattle.book_scope_texts.specs.FileFindings.{bare_table, table_named}
 
 pub any_name : (text : List ℕ) (names : List (List ℕ)) → list_any (λ t. bytes_eq t.name text) (map table_named names) ≡ list_any (λ name. bytes_eq name text) names
 any_name text [] = refl

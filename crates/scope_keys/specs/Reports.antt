@@ -2,8 +2,8 @@
 use Rattle.std.specs.Prelude.{◌≡◌, ℕ, ◌≤◌, Bool, true, false, List, length}
 use Rattle.book_keys.specs.declared.fault.TableFault.{TableFault}
 use Rattle.book_keys.specs.declared.fault.TableFault.TheVariants as fault
-use Rattle.book_scope_keys.specs.declared.finding.TomlFault.{TomlFault}
-use Rattle.book_scope_keys.specs.FileFindings.{key_report}
+use Rattle.book_scope_texts.specs.declared.finding.TomlFault.{TomlFault}
+use Rattle.book_scope_texts.specs.FileFindings.{key_report}
 
 -- what is written is the book's report; where the text is no TOML, it is none from one of its bytes
 -- on, for one of the reasons (own)

@@ -3,19 +3,20 @@ ghost use Rattle.std.specs.Prelude.{◌≡◌, ◌≤◌, ◌++◌, ◌∷◌, [
 ghost use Rattle.toml.specs.Data.{array};
 ghost use Rattle.toml.specs.View.{items_view, table_view, view};
 ghost use Rattle.book_keys.specs.Rows.{row_limit};
-ghost use Rattle.book_scope_keys.specs.FieldTexts.{finding_at, hidden_said};
-ghost use Rattle.book_scope_keys.specs.FileFindings.{key_place, node_address_findings, node_fields_findings};
-ghost use Rattle.book_scope_keys.specs.FileFindings.{node_name_findings, rows_findings, rows_findings_from};
-ghost use Rattle.book_scope_keys.specs.FileFindings.{rows_wanted, used_hint};
-ghost use Rattle.book_scope_keys.specs.RowFindings.{address_hint_of, count_said, row_findings};
+ghost use Rattle.book_scope_texts.specs.FieldTexts.{finding_at, hidden_said};
+ghost use Rattle.book_scope_texts.specs.FileFindings.{key_place, node_address_findings, node_fields_findings};
+ghost use Rattle.book_scope_texts.specs.FileFindings.{node_name_findings, rows_findings, rows_findings_from};
+ghost use Rattle.book_scope_texts.specs.FileFindings.{rows_wanted, used_hint};
+ghost use Rattle.book_scope_texts.specs.RowFindings.{address_hint_of, count_said, row_findings};
 
 use crate::node::NodeName;
 use crate::seen::{Seen, address_at, name_at};
 use book_keys::ROW_LIMIT;
-use book_scope_keys::{KeyFinding, KeyPlace};
+use book_scope_texts::{KeyFinding, KeyPlace};
 use key_table::member_at;
-use scope_key_rows::{field_at, push_count, push_hidden, push_row, push_unknown, push_unless};
-use scope_key_texts::push_address_hint;
+use scope_texts::{
+    field_at, push_address_hint, push_count, push_hidden, push_row, push_unknown, push_unless,
+};
 use std::alloc::AllocError;
 use toml::{Table, Value};
 
@@ -32,7 +33,7 @@ fn used_hint(is_used: bool) -> &'static [u8]
     }
 }
 
-#[tactic(auto, unfolding(book_scope_keys::specs::FileFindings::node_name_findings))]
+#[tactic(auto, unfolding(book_scope_texts::specs::FileFindings::node_name_findings))]
 fn push_name(
     findings: &mut Vec<KeyFinding>,
     place: &KeyPlace,
@@ -64,7 +65,7 @@ fn push_address_said(
     push_address_hint(out, value)
 }
 
-#[tactic(auto, unfolding(book_scope_keys::specs::FileFindings::node_address_findings))]
+#[tactic(auto, unfolding(book_scope_texts::specs::FileFindings::node_address_findings))]
 fn push_address(
     findings: &mut Vec<KeyFinding>,
     place: &KeyPlace,
@@ -142,7 +143,7 @@ fn push_no_rows(
     push_hidden(findings, &place, "key", Some(value), ROWS_WANTED)
 }
 
-#[tactic(auto, unfolding(book_scope_keys::specs::FileFindings::rows_findings), using(key_table::proofs::ItemLaws::count_view))]
+#[tactic(auto, unfolding(book_scope_texts::specs::FileFindings::rows_findings), using(key_table::proofs::ItemLaws::count_view))]
 fn push_row_array(
     findings: &mut Vec<KeyFinding>,
     node: &NodeName,
@@ -157,7 +158,7 @@ fn push_row_array(
     push_row_count(findings, node, values.len())
 }
 
-#[tactic(auto, unfolding(book_scope_keys::specs::FileFindings::rows_findings))]
+#[tactic(auto, unfolding(book_scope_texts::specs::FileFindings::rows_findings))]
 fn push_rows(
     findings: &mut Vec<KeyFinding>,
     node: &NodeName,
@@ -176,7 +177,7 @@ fn push_rows(
 }
 
 /// Puts what is found in the fields of a node behind the findings. An error only for want of memory.
-#[tactic(auto, unfolding(book_scope_keys::specs::FileFindings::node_fields_findings))]
+#[tactic(auto, unfolding(book_scope_texts::specs::FileFindings::node_fields_findings))]
 pub(crate) fn push_fields(
     findings: &mut Vec<KeyFinding>,
     node: &NodeName,

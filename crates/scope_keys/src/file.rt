@@ -2,17 +2,17 @@
 ghost use Rattle.std.specs.Prelude.{◌≡◌, ◌≤◌, ◌++◌, Err, IfOk, Ok, OnOk, flat_map, length};
 ghost use Rattle.toml.specs.View.{table_view};
 ghost use Rattle.book_keys.specs.Rows.{row_limit};
-ghost use Rattle.book_scope_keys.specs.FileFindings.{field_findings, first_or_further, has_nodes, no_faults_line};
-ghost use Rattle.book_scope_keys.specs.FileFindings.{refused_findings, row_total, syntax_line, tables_line};
-ghost use Rattle.book_scope_keys.specs.Places.{key_finding_line};
+ghost use Rattle.book_scope_texts.specs.FileFindings.{field_findings, first_or_further, has_nodes, no_faults_line};
+ghost use Rattle.book_scope_texts.specs.FileFindings.{refused_findings, row_total, syntax_line, tables_line};
+ghost use Rattle.book_scope_texts.specs.Places.{key_finding_line};
 
 use crate::nodes::push_document;
 use crate::refused::push_refused;
 use crate::toml_fault::toml_fault_text;
 use ao_base::push_decimal;
-use book_scope_keys::{KeyFinding, TomlFault};
+use book_scope_texts::{KeyFinding, TomlFault};
 use key_table::{Table, TableFault, Tables};
-use scope_key_texts::{is_plain_text, push_finding_line, push_place, text_place};
+use scope_texts::{is_plain_text, push_finding_line, push_place, text_place};
 use std::alloc::{AllocError, Global};
 
 /// All that is found in a document that isn't read for this fault: what is wrong with its fields, or else, if nothing
@@ -61,7 +61,7 @@ pub(crate) fn push_lines(
 }
 
 /// The line of a text that is no TOML from the byte with this index on, for this reason.
-#[tactic(auto, unfolding(book_scope_keys::specs::FileFindings::syntax_line))]
+#[tactic(auto, unfolding(book_scope_texts::specs::FileFindings::syntax_line))]
 pub(crate) fn push_syntax(
     out: &mut Vec<u8>,
     at: usize,
@@ -102,7 +102,7 @@ fn node_total(tables: &Tables) -> u64
 }
 
 /// The line of a file without a fault that has nodes.
-#[tactic(auto, unfolding(book_scope_keys::specs::FileFindings::no_faults_line))]
+#[tactic(auto, unfolding(book_scope_texts::specs::FileFindings::no_faults_line))]
 fn push_no_faults(out: &mut Vec<u8>, tables: &Tables) -> Result<(), AllocError>
     ensures { OnOk result (out.new.items ≡ out.old.items ++ no_faults_line tables.now) }
 {

@@ -4,12 +4,16 @@
 
 mod fields;
 mod file;
+mod found;
 mod node;
 mod nodes;
+mod reading;
 mod refused;
 mod report;
 mod seen;
 mod toml_fault;
 
 pub use file::findings;
+pub use found::findings_of;
+pub use reading::{KeyFile, read_key_file};
 pub use report::answer_keys;

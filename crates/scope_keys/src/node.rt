@@ -1,13 +1,13 @@
 //! How a node is called, and the places in it.
 ghost use Rattle.std.specs.Prelude.{◌≡◌, ◌++◌, IfOk, OnOk, option_map};
 ghost use Rattle.toml.specs.View.{table_view, view};
-ghost use Rattle.book_scope_keys.specs.FileFindings.{called_by, data_called, file_place, key_place, node_called};
+ghost use Rattle.book_scope_texts.specs.FileFindings.{called_by, data_called, file_place, key_place, node_called};
 
 use ao_base::push_decimal;
 use book_base::Bytes;
-use book_scope_keys::KeyPlace;
+use book_scope_texts::KeyPlace;
 use key_table::text_at;
-use scope_key_texts::push_shown_text;
+use scope_texts::push_shown_text;
 use std::alloc::{AllocError, Global};
 use toml::{Table, Value};
 
@@ -69,7 +69,7 @@ pub(crate) fn named(alloc: Global, number: u8, name: Option<&str>) -> Result<Nod
 }
 
 /// The node that a table is. An error only for want of memory.
-#[tactic(auto, unfolding(book_scope_keys::specs::FileFindings::node_called))]
+#[tactic(auto, unfolding(book_scope_texts::specs::FileFindings::node_called))]
 pub(crate) fn node_of(alloc: Global, number: u8, table: &Table) -> Result<NodeName, AllocError>
     ensures number { IfOk result (λ node. node.number ≡ number) }
     ensures called { IfOk result (λ node. node.called ≡ node_called number (table_view table.now)) }

@@ -3,19 +3,19 @@ ghost use Rattle.std.specs.Prelude.{◌≡◌, ◌≤◌, ◌++◌, ◌∷◌, [
 ghost use Rattle.toml.specs.Data.{array};
 ghost use Rattle.toml.specs.View.{items_view, table_view, view};
 ghost use Rattle.book_keys.specs.Rows.{node_limit};
-ghost use Rattle.book_scope_keys.specs.FieldTexts.{field_said, finding_at};
-ghost use Rattle.book_scope_keys.specs.FileFindings.{called_by, field_findings, file_place, key_place, node_called};
-ghost use Rattle.book_scope_keys.specs.FileFindings.{node_fields_findings, node_findings, nodes_findings};
-ghost use Rattle.book_scope_keys.specs.FileFindings.{nodes_findings_from, nodes_wanted};
-ghost use Rattle.book_scope_keys.specs.RowFindings.{count_said};
+ghost use Rattle.book_scope_texts.specs.FieldTexts.{field_said, finding_at};
+ghost use Rattle.book_scope_texts.specs.FileFindings.{called_by, field_findings, file_place, key_place, node_called};
+ghost use Rattle.book_scope_texts.specs.FileFindings.{node_fields_findings, node_findings, nodes_findings};
+ghost use Rattle.book_scope_texts.specs.FileFindings.{nodes_findings_from, nodes_wanted};
+ghost use Rattle.book_scope_texts.specs.RowFindings.{count_said};
 
 use crate::fields::push_fields;
 use crate::node::{file_place, named, node_of};
 use crate::seen::Seen;
 use book_keys::NODE_LIMIT;
-use book_scope_keys::KeyFinding;
+use book_scope_texts::KeyFinding;
 use key_table::member_at;
-use scope_key_rows::{push_count, push_misfit, push_unknown};
+use scope_texts::{push_count, push_misfit, push_unknown};
 use std::alloc::AllocError;
 use toml::{Table, Value};
 
@@ -50,7 +50,7 @@ fn push_no_table(
     push_misfit(findings, &place, "node", Some(value), b"a table, [[node]]")
 }
 
-#[tactic(auto, unfolding(book_scope_keys::specs::FileFindings::node_findings))]
+#[tactic(auto, unfolding(book_scope_texts::specs::FileFindings::node_findings))]
 fn push_node(
     findings: &mut Vec<KeyFinding>,
     seen: &Seen,
@@ -95,7 +95,7 @@ fn push_no_nodes(findings: &mut Vec<KeyFinding>, value: &Value) -> Result<(), Al
     push_misfit(findings, &place, "node", Some(value), NODES_WANTED)
 }
 
-#[tactic(auto, unfolding(book_scope_keys::specs::FileFindings::nodes_findings), using(key_table::proofs::ItemLaws::count_view))]
+#[tactic(auto, unfolding(book_scope_texts::specs::FileFindings::nodes_findings), using(key_table::proofs::ItemLaws::count_view))]
 fn push_node_array(findings: &mut Vec<KeyFinding>, values: &[Value]) -> Result<(), AllocError>
     ensures { OnOk result (findings.new.items ≡ findings.old.items
         ++ nodes_findings (Some (array (items_view values.now)))) }
@@ -106,7 +106,7 @@ fn push_node_array(findings: &mut Vec<KeyFinding>, values: &[Value]) -> Result<(
     push_node_count(findings, values.len())
 }
 
-#[tactic(auto, unfolding(book_scope_keys::specs::FileFindings::nodes_findings))]
+#[tactic(auto, unfolding(book_scope_texts::specs::FileFindings::nodes_findings))]
 fn push_nodes(findings: &mut Vec<KeyFinding>, value: Option<&Value>) -> Result<(), AllocError>
     ensures { OnOk result (findings.new.items ≡ findings.old.items
         ++ nodes_findings (option_map (λ v. view v.now) value.entry)) }
@@ -121,7 +121,7 @@ fn push_nodes(findings: &mut Vec<KeyFinding>, value: Option<&Value>) -> Result<(
 }
 
 /// Puts what is found in the fields of a document behind the findings. An error only for want of memory.
-#[tactic(auto, unfolding(book_scope_keys::specs::FileFindings::field_findings))]
+#[tactic(auto, unfolding(book_scope_texts::specs::FileFindings::field_findings))]
 pub(crate) fn push_document(
     findings: &mut Vec<KeyFinding>,
     document: &Table,

@@ -2,15 +2,15 @@
 ghost use Rattle.std.specs.Prelude.{◌≡◌, ◌++◌, ◌∷◌, [], Err, OnOk, codes, option_map};
 ghost use Rattle.toml.specs.Data.{get_member};
 ghost use Rattle.toml.specs.View.{table_view, view};
-ghost use Rattle.book_scope_keys.specs.FieldTexts.{finding_at};
-ghost use Rattle.book_scope_keys.specs.FileFindings.{data_called, file_place, key_place, node_data, overlap_said};
-ghost use Rattle.book_scope_keys.specs.FileFindings.{refused_findings};
+ghost use Rattle.book_scope_texts.specs.FieldTexts.{finding_at};
+ghost use Rattle.book_scope_texts.specs.FileFindings.{data_called, file_place, key_place, node_data, overlap_said};
+ghost use Rattle.book_scope_texts.specs.FileFindings.{refused_findings};
 
 use crate::node::{file_place, node_at};
 use ao_base::push_decimal;
-use book_scope_keys::KeyFinding;
+use book_scope_texts::KeyFinding;
 use key_table::{TableFault, member_at};
-use scope_key_rows::push_finding;
+use scope_texts::push_finding;
 use std::alloc::AllocError;
 use toml::{Table, Value};
 
@@ -22,7 +22,7 @@ fn node_numbered(document: &Table, number: u8) -> Option<&Value>
     member_at(document, "node")?.get(usize::from(number).saturating_sub(1))
 }
 
-#[tactic(auto, unfolding(book_scope_keys::specs::FileFindings::overlap_said))]
+#[tactic(auto, unfolding(book_scope_texts::specs::FileFindings::overlap_said))]
 fn push_overlap_said(out: &mut Vec<u8>, row: u8) -> Result<(), AllocError>
     ensures { OnOk result (out.new.items ≡ out.old.items ++ overlap_said row) }
 {

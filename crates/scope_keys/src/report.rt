@@ -3,15 +3,15 @@ ghost use Rattle.std.specs.Prelude.{◌≡◌, ◌≤◌, ◌↔◌, [], Err, If
 ghost use Rattle.std.specs.Prelude.{not, true};
 ghost use Rattle.toml.specs.View.{table_view};
 ghost use Rattle.book_keys.specs.Nodes.{document_of, tables_of};
-ghost use Rattle.book_scope_keys.specs.FileFindings.{has_nodes, key_findings, syntax_line, tables_line};
-ghost use Rattle.book_scope_keys.specs.Places.{key_finding_line};
+ghost use Rattle.book_scope_texts.specs.FileFindings.{has_nodes, key_findings, syntax_line, tables_line};
+ghost use Rattle.book_scope_texts.specs.Places.{key_finding_line};
 ghost use Rattle.book_keys.specs.Reading.{Fails};
 ghost use Rattle.scope_keys.specs.Reports.{IsKeyReport, is_memory};
 
 use crate::file::{findings, has_nodes, push_lines, push_syntax, push_tables};
 use crate::toml_fault::fault_of;
 use book_base::Bytes;
-use book_scope_keys::TomlFault;
+use book_scope_texts::TomlFault;
 use command_report::Report;
 use key_table::{TableFault, Tables, Unread, read_document, tables_in};
 use std::alloc::{AllocError, Global};

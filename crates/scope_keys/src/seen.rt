@@ -5,8 +5,8 @@ ghost use Rattle.std.specs.Str.{bytes_eq};
 ghost use Rattle.toml.specs.View.{table_view, view};
 ghost use Rattle.book_keys.specs.Nodes.{node_address_of, node_name_of};
 ghost use Rattle.book_segments.specs.Sockets.{same_address};
-ghost use Rattle.book_scope_keys.specs.FileFindings.{addresses_with, bare_table, names_with, new_address, new_name};
-ghost use Rattle.book_scope_keys.specs.FileFindings.{table_named};
+ghost use Rattle.book_scope_texts.specs.FileFindings.{addresses_with, bare_table, names_with, new_address, new_name};
+ghost use Rattle.book_scope_texts.specs.FileFindings.{table_named};
 
 use ao_base::{is_same_address, read_address};
 use book_base::{Address, Bytes};

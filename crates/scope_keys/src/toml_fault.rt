@@ -1,8 +1,8 @@
 //! Why a text is no TOML, told by the words of the reader.
 ghost use Rattle.std.specs.Prelude.{◌≡◌};
-ghost use Rattle.book_scope_keys.specs.TomlFaults.{toml_fault_text};
+ghost use Rattle.book_scope_texts.specs.TomlFaults.{toml_fault_text};
 
-use book_scope_keys::TomlFault;
+use book_scope_texts::TomlFault;
 
 /// The reason that these words of the TOML reader give.
 pub(crate) fn fault_of(words: &str) -> TomlFault {

@@ -15,10 +15,10 @@ use Rattle.book_sessions.specs.AsSent.{is_segment, lacks_checksum, mended}
 use Rattle.book_sessions.specs.Laps.{Judging}
 use Rattle.book_sessions.specs.Listening.{Listening, listen}
 use Rattle.book_sessions.specs.Sessions.{stored_by, stored_of_packet}
-use Rattle.book_draw_session.specs.declared.rung.SessionRung.{SessionRung}
-use Rattle.book_draw_session.specs.Ladders.{session_ladder}
-use Rattle.book_draw_session.specs.Rungs.{rung_before, rung_heard, rung_said, rungs_of_session, seen_at, session_rung}
-use Rattle.book_draw_session.specs.Times.{left_out}
+use Rattle.book_draw.specs.declared.session_rung.SessionRung.{SessionRung}
+use Rattle.book_draw.specs.SessionLadders.{session_ladder}
+use Rattle.book_draw.specs.SessionRungs.{rung_before, rung_heard, rung_said, rungs_of_session, seen_at, session_rung}
+use Rattle.book_draw.specs.Times.{left_out}
 use Rattle.capture_listener.specs.Listeners.{Knows, Listens}
 use Rattle.capture_reader.specs.declared.frames.FoundDatagram.{FoundDatagram}
 use Rattle.capture_reader.specs.Found.{Gives, seen}

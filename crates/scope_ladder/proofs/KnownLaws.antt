@@ -10,8 +10,8 @@ use Rattle.book_base.specs.Orders.{by_pair, sorted_pair}
 use Rattle.book_base.proofs.OrderLaws.{pair_tied, pair_told, sorted_told, sorted_turned}
 use Rattle.book_segments.specs.Sockets.{same_socket}
 use Rattle.book_segments.proofs.SocketLaws.{same_socket_is, same_socket-refl}
-use Rattle.book_draw_session.specs.declared.rung.SessionEnds.{SessionEnds}
-use Rattle.book_draw_session.specs.Rungs.{same_ends}
+use Rattle.book_draw.specs.declared.session_rung.SessionEnds.{SessionEnds}
+use Rattle.book_draw.specs.SessionRungs.{same_ends}
 use Rattle.scope_ladder.specs.Known.{ArePairsOf}
 
 abbrev pub ends_with : Socket → Socket → SessionEnds

@@ -4,13 +4,13 @@ use Rattle.std.specs.Prelude.{is_some}
 use Rattle.std.specs.List.{filter, list_any}
 use Rattle.std.specs.Option.{option_or, unwrap_or}
 use Rattle.std.proofs.lemmas.List.{append-nil, length-append}
-use Rattle.book_draw_session.specs.declared.rung.SessionEnds.{SessionEnds}
-use Rattle.book_draw_session.specs.declared.rung.SessionRung.{SessionRung}
-use Rattle.book_draw_session.specs.declared.span.DrawnTime.{DrawnTime}
-use Rattle.book_draw_session.specs.Rungs.{ends_of, is_between, rungs_between, rungs_of_session, session_at, sessions_drawn}
-use Rattle.book_draw_session.specs.Ladders.{ends_text, ladder_between, session_ladder}
-use Rattle.book_draw_session.proofs.Places.{any_place, ends_alike, place, place_of}
-use Rattle.book_draw_session.proofs.Steps.{at_last, drawn_last, filter_last, rungs_first, text_first, text_last}
+use Rattle.book_draw.specs.declared.session_rung.SessionEnds.{SessionEnds}
+use Rattle.book_draw.specs.declared.session_rung.SessionRung.{SessionRung}
+use Rattle.book_draw.specs.declared.span.DrawnTime.{DrawnTime}
+use Rattle.book_draw.specs.SessionRungs.{ends_of, is_between, rungs_between, rungs_of_session, session_at, sessions_drawn}
+use Rattle.book_draw.specs.SessionLadders.{ends_text, ladder_between, session_ladder}
+use Rattle.book_draw.proofs.Places.{any_place, ends_alike, place, place_of}
+use Rattle.book_draw.proofs.Steps.{at_last, drawn_last, filter_last, rungs_first, text_first, text_last}
 use Rattle.scope_ladder.specs.Searches.{SeeksBy, timely_text}
 use Rattle.scope_ladder.proofs.Within.{timely_is}
 

@@ -5,17 +5,17 @@ use Rattle.std.proofs.lemmas.List.{append-nil, length-append, take-append-le}
 use Rattle.ao_base.specs.Outside.{IsAtEnd, Rose, Side, WasWritten}
 use Rattle.ao_base.proofs.Sides.{gave_none, rose_after, took_and_none, took_more, took_none}
 use Rattle.book_captures.specs.Captures.{CapturePacket, capture_of}
-use Rattle.book_draw_session.specs.declared.rung.SessionEnds.{SessionEnds}
-use Rattle.book_draw_session.specs.declared.rung.SessionRung.{SessionRung}
-use Rattle.book_draw_session.specs.declared.span.DrawnTime.{DrawnTime}
-use Rattle.book_draw_session.specs.Ladders.{ladder_between, left_text}
-use Rattle.book_draw_session.specs.Rungs.{session_rungs_from, rungs_between, rungs_in, rungs_of_session, session_at, sessions_drawn}
-use Rattle.book_draw_session.specs.Times.{left_out}
-use Rattle.page_draw_session_svg.specs.declared.form.LadderForm.{LadderForm}
-use Rattle.page_draw_session_svg.specs.declared.form.LadderForm.TheVariants.{Text, Picture}
-use Rattle.page_draw_session_svg.specs.SessionPictures.{picture_within, session_as}
+use Rattle.book_draw.specs.declared.session_rung.SessionEnds.{SessionEnds}
+use Rattle.book_draw.specs.declared.session_rung.SessionRung.{SessionRung}
+use Rattle.book_draw.specs.declared.span.DrawnTime.{DrawnTime}
+use Rattle.book_draw.specs.SessionLadders.{ladder_between, left_text}
+use Rattle.book_draw.specs.SessionRungs.{session_rungs_from, rungs_between, rungs_in, rungs_of_session, session_at, sessions_drawn}
+use Rattle.book_draw.specs.Times.{left_out}
+use Rattle.page_draw_svg.specs.declared.form.LadderForm.{LadderForm}
+use Rattle.page_draw_svg.specs.declared.form.LadderForm.TheVariants.{Text, Picture}
+use Rattle.page_draw_svg.specs.SessionPictures.{picture_within, session_as}
 use Rattle.book_sessions.specs.Listening.{listening_behind}
-use Rattle.capture_stream.specs.Reads.{Reading, new_reading}
+use Rattle.capture_walk.specs.Reads.{Reading, new_reading}
 use Rattle.capture_walk.specs.declared.hearer.Heard.{Heard}
 use Rattle.capture_walk.specs.declared.hearer.HearHalt.{HearHalt}
 use Rattle.capture_walk.specs.declared.walking.WalkEnd.{WalkEnd}

@@ -3,16 +3,16 @@ use Rattle.std.proofs.Common.{◌≡◌, ℕ, ◌+◌, Bool, true, false, List, 
 use Rattle.std.specs.List.{filter, flat_map}
 use Rattle.std.proofs.lemmas.List.{append-nil, length-append}
 use Rattle.std.proofs.lemmas.List.Elements.{filter-append}
-use Rattle.book_draw_session.specs.declared.rung.SessionEnds.{SessionEnds}
-use Rattle.book_draw_session.specs.declared.rung.SessionRung.{SessionRung}
-use Rattle.book_draw_session.specs.declared.span.DrawnTime.{DrawnTime}
-use Rattle.book_draw_session.specs.declared.span.LeftOut.{LeftOut}
-use Rattle.book_draw_session.specs.Folds.{counted_on}
-use Rattle.book_draw_session.specs.Ladders.{session_ladder, session_rung_text}
-use Rattle.book_draw_session.specs.Rungs.{rungs_of_session}
-use Rattle.book_draw_session.specs.Times.{rungs_counted, is_early, is_late, is_timely, left_out, rungs_within}
-use Rattle.page_draw_session_svg.specs.declared.form.LadderForm.{LadderForm}
-use Rattle.page_draw_session_svg.specs.declared.form.LadderForm.TheVariants.{Text, Picture}
+use Rattle.book_draw.specs.declared.session_rung.SessionEnds.{SessionEnds}
+use Rattle.book_draw.specs.declared.session_rung.SessionRung.{SessionRung}
+use Rattle.book_draw.specs.declared.span.DrawnTime.{DrawnTime}
+use Rattle.book_draw.specs.declared.span.LeftOut.{LeftOut}
+use Rattle.book_draw.specs.Folds.{counted_on}
+use Rattle.book_draw.specs.SessionLadders.{session_ladder, session_rung_text}
+use Rattle.book_draw.specs.SessionRungs.{rungs_of_session}
+use Rattle.book_draw.specs.Times.{rungs_counted, is_early, is_late, is_timely, left_out, rungs_within}
+use Rattle.page_draw_svg.specs.declared.form.LadderForm.{LadderForm}
+use Rattle.page_draw_svg.specs.declared.form.LadderForm.TheVariants.{Text, Picture}
 use Rattle.scope_ladder.specs.declared.drawer.Drawer.{Drawer}
 use Rattle.scope_ladder.specs.declared.search.Shown.{Shown}
 use Rattle.scope_ladder.specs.declared.search.Shown.TheVariants.{Nothing, First, Later}

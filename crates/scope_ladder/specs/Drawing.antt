@@ -11,13 +11,13 @@ use Rattle.book_sessions.specs.CutOff.{cut_segment}
 use Rattle.book_sessions.specs.Laps.{Judging}
 use Rattle.book_sessions.specs.Listening.{Listening, listen}
 use Rattle.book_sessions.specs.Sessions.{stored_of_packet}
-use Rattle.book_draw_session.specs.declared.rung.SessionEnds.{SessionEnds}
-use Rattle.book_draw_session.specs.declared.rung.SessionRung.{SessionRung}
-use Rattle.book_draw_session.specs.declared.span.DrawnTime.{DrawnTime}
-use Rattle.book_draw_session.specs.Rungs.{drawn_by, rung_before, rungs_in, rungs_of_session, seen_at, session_at, session_rungs_from, sessions_drawn}
-use Rattle.book_draw_session.specs.Times.{left_out}
-use Rattle.page_draw_session_svg.specs.declared.form.LadderForm.{LadderForm}
-use Rattle.page_draw_session_svg.specs.SessionPictures.{session_as}
+use Rattle.book_draw.specs.declared.session_rung.SessionEnds.{SessionEnds}
+use Rattle.book_draw.specs.declared.session_rung.SessionRung.{SessionRung}
+use Rattle.book_draw.specs.declared.span.DrawnTime.{DrawnTime}
+use Rattle.book_draw.specs.SessionRungs.{drawn_by, rung_before, rungs_in, rungs_of_session, seen_at, session_at, session_rungs_from, sessions_drawn}
+use Rattle.book_draw.specs.Times.{left_out}
+use Rattle.page_draw_svg.specs.declared.form.LadderForm.{LadderForm}
+use Rattle.page_draw_svg.specs.SessionPictures.{session_as}
 use Rattle.capture_listener.specs.Listeners.{Knows}
 use Rattle.scope_ladder.specs.declared.draw.LadderRequest.{LadderRequest}
 use Rattle.scope_ladder.specs.declared.drawer.Drawer.{Drawer}

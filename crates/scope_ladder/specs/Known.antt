@@ -5,8 +5,8 @@ use Rattle.std.specs.List.{list_any}
 use Rattle.book_base.specs.declared.address.Pair.{Pair}
 use Rattle.book_base.specs.declared.address.Socket.{Socket}
 use Rattle.book_base.specs.Orders.{by_pair, sorted_pair}
-use Rattle.book_draw_session.specs.declared.rung.SessionEnds.{SessionEnds}
-use Rattle.book_draw_session.specs.Rungs.{same_ends}
+use Rattle.book_draw.specs.declared.session_rung.SessionEnds.{SessionEnds}
+use Rattle.book_draw.specs.SessionRungs.{same_ends}
 
 -- two sockets in their order are among these pairs exactly where a session is between them (own)
 abbrev pub ArePairsOf : List Pair → List SessionEnds → Type 0

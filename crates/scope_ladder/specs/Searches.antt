@@ -1,17 +1,17 @@
 -- What the search for a session knows (own).
 use Rattle.std.specs.Prelude.{◌≡◌, ℕ, true, List, [], ◌∷◌, ◌++◌, length, Option, Some, None, Result, Ok, Err}
 use Rattle.std.specs.Prelude.{is_some, if◌then◌else◌}
-use Rattle.book_draw_session.specs.declared.rung.SessionEnds.{SessionEnds}
-use Rattle.book_draw_session.specs.declared.rung.SessionRung.{SessionRung}
-use Rattle.book_draw_session.specs.declared.span.DrawnTime.{DrawnTime}
-use Rattle.book_draw_session.specs.declared.span.LeftOut.{LeftOut}
-use Rattle.book_draw_session.specs.Folds.{counted_on}
-use Rattle.book_draw_session.specs.Ladders.{ends_text, left_text, session_ladder, session_rung_text}
-use Rattle.book_draw_session.specs.Rungs.{rungs_of_session, session_at, sessions_drawn}
-use Rattle.book_draw_session.specs.Times.{is_early, is_late, is_timely, left_runs, rungs_within}
-use Rattle.page_draw_session_svg.specs.declared.form.LadderForm.{LadderForm}
-use Rattle.page_draw_session_svg.specs.declared.form.LadderForm.TheVariants.{Text, Picture}
-use Rattle.page_draw_session_svg.specs.SessionPictures.{picture_between}
+use Rattle.book_draw.specs.declared.session_rung.SessionEnds.{SessionEnds}
+use Rattle.book_draw.specs.declared.session_rung.SessionRung.{SessionRung}
+use Rattle.book_draw.specs.declared.span.DrawnTime.{DrawnTime}
+use Rattle.book_draw.specs.declared.span.LeftOut.{LeftOut}
+use Rattle.book_draw.specs.Folds.{counted_on}
+use Rattle.book_draw.specs.SessionLadders.{ends_text, left_text, session_ladder, session_rung_text}
+use Rattle.book_draw.specs.SessionRungs.{rungs_of_session, session_at, sessions_drawn}
+use Rattle.book_draw.specs.Times.{is_early, is_late, is_timely, left_runs, rungs_within}
+use Rattle.page_draw_svg.specs.declared.form.LadderForm.{LadderForm}
+use Rattle.page_draw_svg.specs.declared.form.LadderForm.TheVariants.{Text, Picture}
+use Rattle.page_draw_svg.specs.SessionPictures.{picture_between}
 use Rattle.scope_ladder.specs.declared.draw.LadderHalt.{LadderHalt}
 use Rattle.scope_ladder.specs.declared.draw.LadderHalt.TheVariants.{NoSession}
 use Rattle.scope_ladder.specs.declared.search.Search.{Search}

@@ -6,9 +6,9 @@ use Rattle.ao_base.specs.Outside.{Side, Gave, WasWritten, Rose, IsAtEnd, told}
 use Rattle.book_base.specs.Hexadecimal.{IsByte}
 use Rattle.book_captures.specs.declared.capture_parts.CaptureFault.{CaptureFault}
 use Rattle.book_captures.specs.Captures.{CapturePacket, capture_of}
-use Rattle.book_draw_session.specs.declared.rung.SessionRung.{SessionRung}
-use Rattle.book_draw_session.specs.Rungs.{sessions_drawn}
-use Rattle.capture_stream.specs.Reads.{most_read}
+use Rattle.book_draw.specs.declared.session_rung.SessionRung.{SessionRung}
+use Rattle.book_draw.specs.SessionRungs.{sessions_drawn}
+use Rattle.capture_walk.specs.Reads.{most_read}
 use Rattle.scope_ladder.specs.declared.draw.LadderHalt.{LadderHalt}
 use Rattle.scope_ladder.specs.declared.draw.LadderHalt.TheVariants as halt
 use Rattle.scope_ladder.specs.declared.drawer.Drawer.{Drawer}

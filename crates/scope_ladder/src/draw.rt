@@ -7,12 +7,11 @@ ghost use Rattle.scope_ladder.specs.Writing.{Writes};
 use crate::drawer::Drawer;
 use crate::last::finish;
 use ao_base::{Sink, Source};
-use book_draw_session::DrawnTime;
+use book_draw::DrawnTime;
 use book_sessions::GivenIsns;
-use capture_stream::CaptureReader;
-use capture_walk::{WalkHalt, walk};
+use capture_walk::{CaptureReader, WalkHalt, walk};
 use key_table::Tables;
-use page_draw_session_svg::LadderForm;
+use page_draw_svg::LadderForm;
 use std::alloc::Global;
 
 /// Which session of a capture is drawn.

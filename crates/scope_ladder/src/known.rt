@@ -1,10 +1,10 @@
 //! The sessions that are known, each found by its two sockets.
 ghost use Rattle.std.specs.Prelude.{◌≡◌, ◌∷◌, ◌++◌, [], OnOk, length};
 ghost use Rattle.std.specs.List.{list_any};
-ghost use Rattle.book_draw_session.specs.Rungs.{is_between};
+ghost use Rattle.book_draw.specs.SessionRungs.{is_between};
 
 use book_base::Pair;
-use book_draw_session::{SessionEnds, SessionRung};
+use book_draw::{SessionEnds, SessionRung};
 use std::alloc::{AllocError, Global};
 use std::collections::BTreeSet;
 use std::marker::Model;
@@ -19,7 +19,7 @@ pub(crate) struct KnownEnds {
 
 impl Model for KnownEnds {
     ghost use Rattle.std.specs.Prelude.{List};
-    ghost use Rattle.book_draw_session.specs.declared.rung.SessionEnds.{SessionEnds as Ends};
+    ghost use Rattle.book_draw.specs.declared.session_rung.SessionEnds.{SessionEnds as Ends};
     ghost use Rattle.scope_ladder.specs.Known.{ArePairsOf};
 
     ghost Value = { List Ends };

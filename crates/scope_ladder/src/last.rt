@@ -1,9 +1,9 @@
 //! What is drawn when all is read: how many segments are left out, or the picture. And how the drawing ends.
 ghost use Rattle.std.specs.Prelude.{◌≡◌, IfOk, List};
 ghost use Rattle.ao_base.specs.Outside.{Side};
-ghost use Rattle.book_draw_session.specs.Times.{left_runs};
-ghost use Rattle.book_draw_session.specs.declared.rung.SessionRung.{SessionRung as Segment};
-ghost use Rattle.page_draw_session_svg.specs.SessionPictures.{picture_between};
+ghost use Rattle.book_draw.specs.Times.{left_runs};
+ghost use Rattle.book_draw.specs.declared.session_rung.SessionRung.{SessionRung as Segment};
+ghost use Rattle.page_draw_svg.specs.SessionPictures.{picture_between};
 ghost use Rattle.scope_ladder.specs.Drawing.{last_text};
 ghost use Rattle.scope_ladder.specs.Searches.{Seeks, Tells};
 ghost use Rattle.scope_ladder.specs.Writing.{EndsBy, WritesLast};
@@ -14,7 +14,7 @@ use crate::search::Search;
 use ao_base::{Failed, Sink, write_all};
 use capture_walk::{WalkEnd, WalkHalt};
 use draw_session_rungs::{print_left, print_session_svg};
-use page_draw_session_svg::LadderForm;
+use page_draw_svg::LadderForm;
 use std::alloc::AllocError;
 
 // Whether the session was found, at the capture's end.

@@ -4,8 +4,7 @@ ghost use Rattle.book_segments.specs.Options.{find_ao};
 ghost use Rattle.book_sessions.specs.Sessions.{carries_md5, protection_of};
 
 use book_sessions::Protection;
-use tcp_options::AoFound;
-use tcp_segment::Datagram;
+use tcp_segment::{AoFound, Datagram};
 
 /// The option kind of TCP MD5 (RFC 2385, section 3.0).
 const MD5_KIND: u8 = 19;

@@ -1,13 +1,13 @@
 //! Which sockets the session has that is drawn.
 ghost use Rattle.std.specs.Prelude.{◌≡◌, ◌∷◌, ◌++◌, [], List, IfOk, OnOk};
-ghost use Rattle.book_draw_session.specs.Ladders.{session_ladder};
-ghost use Rattle.book_draw_session.specs.Rungs.{ends_of, is_between, rungs_of_session};
-ghost use Rattle.book_draw_session.specs.declared.rung.SessionRung.{SessionRung as Segment};
-ghost use Rattle.book_draw_session.specs.declared.span.DrawnTime.{DrawnTime as Time};
+ghost use Rattle.book_draw.specs.SessionLadders.{session_ladder};
+ghost use Rattle.book_draw.specs.SessionRungs.{ends_of, is_between, rungs_of_session};
+ghost use Rattle.book_draw.specs.declared.session_rung.SessionRung.{SessionRung as Segment};
+ghost use Rattle.book_draw.specs.declared.span.DrawnTime.{DrawnTime as Time};
 ghost use Rattle.scope_ladder.specs.Searches.{Seeks, shown_rungs, shown_text};
 
 use crate::known::KnownEnds;
-use book_draw_session::{SessionEnds, SessionRung};
+use book_draw::{SessionEnds, SessionRung};
 use std::alloc::{AllocError, Global};
 
 /// The search for a session: its number, the sessions that are known, up to it, and its sockets, once they

@@ -1,14 +1,14 @@
 //! What is drawn, kept and counted of a segment.
 ghost use Rattle.std.specs.Prelude.{◌≡◌, ◌∷◌, ◌++◌, [], OnOk, if◌then◌else◌};
-ghost use Rattle.book_draw_session.specs.Folds.{counted_on};
-ghost use Rattle.book_draw_session.specs.Times.{is_early, is_late, is_timely, rungs_within};
+ghost use Rattle.book_draw.specs.Folds.{counted_on};
+ghost use Rattle.book_draw.specs.Times.{is_early, is_late, is_timely, rungs_within};
 ghost use Rattle.scope_ladder.specs.Searches.{kept_as, left_and, left_with, shown_as, shown_rungs, shown_text};
 ghost use Rattle.scope_ladder.specs.Searches.{timely_text};
 
 use crate::search::Shown;
-use book_draw_session::{DrawnTime, LeftOut, SessionEnds, SessionRung};
+use book_draw::{DrawnTime, LeftOut, SessionEnds, SessionRung};
 use draw_session_rungs::{push_ends, push_rung};
-use page_draw_session_svg::LadderForm;
+use page_draw_svg::LadderForm;
 use std::alloc::AllocError;
 
 /// How many nanoseconds a second has.

@@ -8,7 +8,7 @@ use Rattle.ao_base.proofs.Sides.{took_none}
 use Rattle.book_captures.specs.declared.reasons.Skipped.{Skipped}
 use Rattle.book_captures.specs.Frames.{Datagram}
 use Rattle.book_captures.specs.Captures.{CapturePacket, frame_datagram}
-use Rattle.book_scope.specs.PacketLines.{line_by, packet_line}
+use Rattle.book_captures.specs.PacketLines.{line_by, packet_line}
 use Rattle.capture_reader.specs.declared.frames.FoundDatagram.{FoundDatagram}
 use Rattle.capture_reader.specs.Found.{Gives, seen}
 use Rattle.scope_lines.specs.Writes.{found_in}

@@ -5,8 +5,8 @@ use Rattle.std.proofs.lemmas.Grind.{flat_map-append}
 use Rattle.ao_base.specs.Outside.{Side}
 use Rattle.ao_base.proofs.Sides.{gave_none, took_none}
 use Rattle.book_captures.specs.Captures.{CapturePacket}
-use Rattle.book_scope.specs.PacketLines.{packet_line, packet_lines}
-use Rattle.capture_stream.specs.Reads.{Reading, new_reading}
+use Rattle.book_captures.specs.PacketLines.{packet_line, packet_lines}
+use Rattle.capture_walk.specs.Reads.{Reading, new_reading}
 use Rattle.capture_walk.specs.declared.hearer.Heard.{Heard}
 use Rattle.capture_walk.specs.declared.hearer.HearHalt.{HearHalt}
 use Rattle.capture_walk.specs.declared.walking.WalkEnd.{WalkEnd}

@@ -8,9 +8,9 @@ use Rattle.book_captures.specs.Frames.{Datagram}
 use Rattle.capture_reader.specs.declared.frames.FoundDatagram.{FoundDatagram}
 use Rattle.capture_reader.specs.Found.{seen}
 use Rattle.book_captures.specs.Captures.{CapturePacket, capture_of}
-use Rattle.book_scope.specs.PacketLines.{packet_line, packet_lines}
+use Rattle.book_captures.specs.PacketLines.{packet_line, packet_lines}
 use Rattle.book_base.specs.Hexadecimal.{IsByte}
-use Rattle.capture_stream.specs.Reads.{most_read, most_buffered}
+use Rattle.capture_walk.specs.Reads.{most_read, most_buffered}
 use Rattle.scope_lines.specs.declared.write.LinesHalt.{LinesHalt}
 use Rattle.scope_lines.specs.declared.write.LinesHalt.TheVariants as halt
 use Rattle.capture_walk.specs.HasRead.{HasRead}

@@ -1,10 +1,11 @@
 //! What is wrong with a capture, in words.
 ghost use Rattle.std.specs.Prelude.{◌≡◌, ◌++◌, OnOk, decimal};
-ghost use Rattle.book_scope.specs.FaultTexts.{header_fault_text, record_fault_text, block_fault_text, body_fault_text};
-ghost use Rattle.book_scope.specs.FaultTexts.{part_text, cause_text, capture_fault_text};
+ghost use Rattle.book_captures.specs.FaultTexts.{header_fault_text, record_fault_text, block_fault_text};
+ghost use Rattle.book_captures.specs.FaultTexts.{body_fault_text};
+ghost use Rattle.book_captures.specs.FaultTexts.{part_text, cause_text, capture_fault_text};
 
 use ao_base::push_decimal;
-use capture_stream::{BlockFault, BodyFault, CaptureFault, Cause, PcapHeadFault, RecordFault};
+use capture_walk::{BlockFault, BodyFault, CaptureFault, Cause, PcapHeadFault, RecordFault};
 use std::alloc::AllocError;
 
 fn head_fault_name(why: PcapHeadFault) -> &'static [u8]
@@ -83,7 +84,7 @@ fn push_part(out: &mut Vec<u8>, cause: Cause, number: u64) -> Result<(), AllocEr
 
 /// Puts the text of a fault, with its newline, behind `out`: in which part of the file it is, at which byte
 /// that begins, and what is wrong. Where memory runs out a part of it may stand there.
-#[tactic(auto, unfolding(book_scope::specs::FaultTexts::capture_fault_text))]
+#[tactic(auto, unfolding(book_captures::specs::FaultTexts::capture_fault_text))]
 pub fn push_fault(out: &mut Vec<u8>, fault: CaptureFault) -> Result<(), AllocError>
     ensures { OnOk result (out.new.items ≡ out.old.items ++ capture_fault_text fault) }
 {

@@ -5,7 +5,7 @@ mod fault;
 mod line;
 mod write;
 
-pub use capture_stream::{CaptureFault, Cause, RecordFault};
+pub use capture_walk::{CaptureFault, Cause, RecordFault};
 pub use fault::push_fault;
 pub use line::{judged, push_reason};
 pub use write::{LinesHalt, write_lines};

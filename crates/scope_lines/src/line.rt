@@ -3,13 +3,13 @@ ghost use Rattle.std.specs.Prelude.{◌≡◌, ◌/◌, ◌++◌, ◌∷◌, [],
 ghost use Rattle.std.specs.Prelude.{take, length};
 ghost use Rattle.book_base.specs.Hexadecimal.{hex_of};
 ghost use Rattle.book_pcap.specs.Packets.{longest_datagram};
-ghost use Rattle.book_scope.specs.PacketLines.{header_text, reason_text, remark, line_by, packet_line};
+ghost use Rattle.book_captures.specs.PacketLines.{header_text, reason_text, remark, line_by, packet_line};
 ghost use Rattle.scope_lines.specs.Writes.{found_in};
 
 use ao_base::{push_decimal, push_hex};
 use book_pcap::LONGEST_DATAGRAM;
 use capture_reader::FoundDatagram;
-use capture_stream::{CaptureReader, Header, Skipped};
+use capture_walk::{CaptureReader, Header, Skipped};
 use std::alloc::AllocError;
 
 /// How many nanoseconds a second has.

@@ -5,8 +5,9 @@ ghost use Rattle.scope_lines.specs.Writes.{Writes, lines_ended};
 
 use crate::line::print_line;
 use ao_base::{Sink, Source};
-use capture_stream::{CaptureFault, CaptureReader};
-use capture_walk::{HearHalt, Heard, Hearer, WalkEnd, WalkHalt, tell, walk};
+use capture_walk::{
+    CaptureFault, CaptureReader, HearHalt, Heard, Hearer, WalkEnd, WalkHalt, tell, walk,
+};
 use std::alloc::Global;
 
 /// Why not the lines of a whole capture were written.
@@ -31,7 +32,7 @@ struct LineWriter {
 }
 
 impl Hearer for LineWriter {
-    ghost use Rattle.book_scope.specs.PacketLines.{packet_lines};
+    ghost use Rattle.book_captures.specs.PacketLines.{packet_lines};
 
     ghost Asked = { Unit {0} };
 

@@ -10,10 +10,10 @@ use Rattle.book_base.specs.Results.{◌>>=◌}
 use Rattle.book_lines.specs.Said.{Said, at_number, said_by}
 use Rattle.text_lines.specs.Readings.{Answers, Fails}
 use Rattle.text_lines.proofs.SaidLaws.{said_few, same_fault}
-use Rattle.book_draw_plan.specs.declared.form.PlanForm.{PlanForm}
+use Rattle.book_scope_plan.specs.declared.form.PlanForm.{PlanForm}
 use Rattle.book_keys.specs.declared.plan.Plan.{Plan}
 use Rattle.book_scope_plan.specs.Connections.{plan_pair_of}
-use Rattle.book_draw_plan.specs.Bars.{good_plans}
+use Rattle.book_scope_plan.specs.Bars.{good_plans}
 use Rattle.book_scope_plan.specs.FindingTexts.{one_if}
 use Rattle.book_scope_plan.specs.PlanTexts.{has_wrong_plan, is_good_plan, is_right_plan}
 use Rattle.scope_plan.specs.declared.planned.Planned.{Planned}

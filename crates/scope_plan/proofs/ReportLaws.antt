@@ -8,13 +8,13 @@ use Rattle.book_lines.specs.declared.text_fault.TextFault.TheVariants as text_fa
 use Rattle.book_lines.specs.Said.{Said, said_in}
 use Rattle.book_base.specs.Results.{◌>>=◌}
 use Rattle.text_lines.specs.Readings.{Fails}
-use Rattle.book_draw_plan.specs.declared.form.PlanForm.{PlanForm}
-use Rattle.book_draw_plan.specs.declared.form.PlanForm.TheVariants.{Bars, Lines as FormOfLines, Picture}
+use Rattle.book_scope_plan.specs.declared.form.PlanForm.{PlanForm}
+use Rattle.book_scope_plan.specs.declared.form.PlanForm.TheVariants.{Bars, Lines as FormOfLines, Picture}
 use Rattle.std.specs.Prelude.{flat_map}
-use Rattle.book_draw_plan.specs.Bars.{drawing_text, drawings_text, good_plans, summary_line}
+use Rattle.book_scope_plan.specs.Bars.{drawing_text, drawings_text, good_plans, summary_line}
 use Rattle.page_draw_plan_svg.specs.PlanLines.{drawing_lines, drawings_lines}
 use Rattle.page_draw_plan_svg.specs.PlanPictures.{lines_svg}
-use Rattle.draw_plan_svg.proofs.DrawsLaws.{lines_append}
+use Rattle.draw_plan.proofs.DrawsLaws.{lines_append}
 use Rattle.book_keys.specs.declared.plan.Plan.{Plan}
 use Rattle.book_answer.specs.Answers.{done, if_read}
 use Rattle.book_scope_plan.specs.Connections.{plan_pair_of}

@@ -3,9 +3,9 @@ use Rattle.std.specs.Prelude.{ℕ, ◌+◌, ◌++◌, ◌||◌, false, List, [],
 use Rattle.book_base.specs.declared.address.Pair.{Pair}
 use Rattle.book_base.specs.Results.{◌>>=◌}
 use Rattle.book_answer.specs.Answers.{Answer, done}
-use Rattle.book_draw_plan.specs.Bars.{drawing_text, drawings_text, good_plans, summary_line}
-use Rattle.book_draw_plan.specs.declared.form.PlanForm.{PlanForm}
-use Rattle.book_draw_plan.specs.declared.form.PlanForm.TheVariants.{Bars, Lines, Picture}
+use Rattle.book_scope_plan.specs.Bars.{drawing_text, drawings_text, good_plans, summary_line}
+use Rattle.book_scope_plan.specs.declared.form.PlanForm.{PlanForm}
+use Rattle.book_scope_plan.specs.declared.form.PlanForm.TheVariants.{Bars, Lines, Picture}
 use Rattle.page_draw_plan_svg.specs.PlanLines.{drawing_lines}
 use Rattle.page_draw_plan_svg.specs.PlanPictures.{lines_svg, picture_height, picture_text, plan_head, summary_svg}
 use Rattle.page_draw_plan_svg.specs.RowNames.{picture_width}

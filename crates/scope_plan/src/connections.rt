@@ -7,7 +7,7 @@ ghost use Rattle.book_scope_plan.specs.PlanTexts.{aligned_line, begins_sending, 
 ghost use Rattle.book_scope_plan.specs.PlanTexts.{findings_text, has_none, is_good_plan, margin_text, node_with};
 ghost use Rattle.book_scope_plan.specs.PlanTexts.{nodes_text, plan_findings, unchanged_line};
 ghost use Rattle.scope_plan.specs.Facings.{facing_of};
-ghost use Rattle.key_file.specs.KeyFiles.{key_file_of};
+ghost use Rattle.scope_keys.specs.KeyFiles.{key_file_of};
 
 use crate::calendar::push_calendar;
 use crate::facing::Facing;
@@ -16,13 +16,13 @@ use crate::notes::push_notes;
 use crate::reconfiguring::push_reconfiguring;
 use ao_base::push_decimal;
 use book_base::Pair;
-use book_cmd_keys::Plan;
+use book_cmd_link::Plan;
 use both_ends::BothEnds;
 use draw_plan::Connected;
-use key_file::KeyFile;
 use key_plan::{Finding, Margin, Role, Turn, calendar, findings, lag_margin, lead_margin};
 use key_table::Tables;
 use plan_texts::{push_missing, push_pair_line, push_times};
+use scope_keys::KeyFile;
 use std::alloc::{AllocError, Global};
 
 #[tactic(auto, unfolding(book_scope_plan::specs::PlanTexts::margin_text))]

@@ -1,25 +1,27 @@
 //! What is said of a connection in a form: its lines, its bars, or its part of a picture.
 ghost use Rattle.std.specs.Prelude.{◌≡◌, ◌++◌, ◌+◌, ◌≤◌, ◌&&◌, OnOk, IfOk, is_some, option_map};
-ghost use Rattle.book_draw_plan.specs.Bars.{both_bars, drawing_text, nodes_bars};
+ghost use Rattle.book_scope_plan.specs.Bars.{both_bars, drawing_text, nodes_bars};
 ghost use Rattle.page_draw_plan_svg.specs.PlanLines.{drawing_lines};
 ghost use Rattle.book_scope_plan.specs.PlanTexts.{connection_line, has_none, is_good_plan, missing_text, node_with};
 ghost use Rattle.book_scope_plan.specs.PlanTexts.{plan_findings};
-ghost use Rattle.key_file.specs.KeyFiles.{key_file_of};
-ghost use Rattle.draw_plan_svg.specs.Draws.{Draws};
+ghost use Rattle.scope_keys.specs.KeyFiles.{key_file_of};
+ghost use Rattle.draw_plan.specs.Draws.{Draws};
 ghost use Rattle.scope_plan.specs.Plannings.{connection_as, framed_plan, lines_as};
 
 use crate::connections::{findings_by, has_none, push_connection};
 use crate::planned::{Planned, Written};
 use book_base::{Bytes, Pair};
-use book_cmd_keys::Plan;
-use book_draw_plan::PlanForm;
+use book_cmd_link::Plan;
 use book_plans::Finding;
+use book_scope_plan::PlanForm;
 use both_ends::BothEnds;
-use draw_plan::{Connected, push_bars, push_summary_line};
-use draw_plan_svg::{Panel, Paper, picture_width, push_end, push_front, push_panel, push_summary};
-use key_file::KeyFile;
+use draw_plan::{
+    Connected, Panel, Paper, picture_width, push_bars, push_end, push_front, push_panel,
+    push_summary, push_summary_line,
+};
 use key_table::{Table, Tables};
 use plan_texts::{push_missing, push_pair_line};
+use scope_keys::KeyFile;
 use std::alloc::{AllocError, Global};
 
 /// The bars of a connection whose ends have tables; whether there is no finding.
@@ -41,7 +43,7 @@ fn push_both(
 }
 
 /// A connection as it is drawn; whether nothing is wrong with its plan.
-#[tactic(auto, unfolding(book_draw_plan::specs::Bars::drawing_text, book_scope_plan::specs::PlanTexts::is_good_plan))]
+#[tactic(auto, unfolding(book_scope_plan::specs::Bars::drawing_text, book_scope_plan::specs::PlanTexts::is_good_plan))]
 fn push_drawing(
     alloc: Global,
     out: &mut Vec<u8>,

@@ -3,13 +3,13 @@ ghost use Rattle.std.specs.Prelude.{◌≡◌};
 ghost use Rattle.book_scope_plan.specs.FindingTexts.{facing_at};
 ghost use Rattle.book_scope_plan.specs.PlanTexts.{facing};
 ghost use Rattle.scope_plan.specs.Facings.{facing_of};
-ghost use Rattle.key_file.specs.KeyFiles.{key_file_of};
+ghost use Rattle.scope_keys.specs.KeyFiles.{key_file_of};
 
 use book_base::{End, Pair};
-use book_cmd_keys::Plan;
+use book_cmd_link::Plan;
 use draw_plan::Connected;
-use key_file::KeyFile;
 use key_table::{Table, mirrored};
+use scope_keys::KeyFile;
 
 /// A connection as one of its ends sees it: the document that the key file is, the table of its node, that
 /// of the other end's, the pair, and what is asked of the plan.

@@ -12,7 +12,7 @@ use crate::facing::Facing;
 use crate::ways::{push_if, push_sending_line};
 use ao_base::push_decimal;
 use book_base::Pair;
-use book_cmd_keys::Plan;
+use book_cmd_link::Plan;
 use book_scope_plan::GapSeconds;
 use key_table::{Direction, Lifetime, Row};
 use plan_texts::{push_times, row_name};

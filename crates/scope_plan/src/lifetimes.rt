@@ -6,7 +6,7 @@ ghost use Rattle.scope_plan.specs.Facings.{facing_of};
 
 use crate::facing::Facing;
 use ao_base::push_decimal;
-use book_cmd_keys::Plan;
+use book_cmd_link::Plan;
 use key_plan::wanted_accepting;
 use key_table::{Lifetime, Row};
 use scope_texts::push_instant;

@@ -9,7 +9,7 @@ ghost use Rattle.book_scope_plan.specs.FindingTexts.{one_if};
 ghost use Rattle.book_scope_plan.specs.PlanTexts.{changes_key};
 ghost use Rattle.book_answer.specs.Answers.{if_read};
 ghost use Rattle.command_report.specs.Reports.{Reports};
-ghost use Rattle.key_file.specs.KeyFiles.{key_file_of};
+ghost use Rattle.scope_keys.specs.KeyFiles.{key_file_of};
 ghost use Rattle.scope_plan.specs.Plannings.{no_plan, planned_answer, planned_from, plannings};
 
 use crate::connection::read_connection;
@@ -17,12 +17,12 @@ use crate::connections::changes_key;
 use crate::drawn::{framed, push_connection_as};
 use crate::planned::Planned;
 use book_base::{Bytes, Pair};
-use book_cmd_keys::Plan;
-use book_draw_plan::PlanForm;
+use book_cmd_link::Plan;
 use book_lines::TextFault;
+use book_scope_plan::PlanForm;
 use command_report::{Report, Stop};
-use key_file::KeyFile;
 use key_plan::calendar;
+use scope_keys::KeyFile;
 use std::alloc::{AllocError, Global};
 use text_lines::{Saying, SayingLines, count_lines};
 

@@ -14,7 +14,7 @@ use crate::calendar::are_both_ends;
 use crate::facing::Facing;
 use crate::lifetimes::push_number;
 use book_base::Pair;
-use book_cmd_keys::Plan;
+use book_cmd_link::Plan;
 use key_plan::{Finding, differences};
 use key_table::{LATEST, Lifetime, Row};
 use plan_texts::{push_times, row_numbered};

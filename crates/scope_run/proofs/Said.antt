@@ -2,8 +2,8 @@
 use Rattle.std.proofs.Common.{◌≡◌, ◌≢◌, ℕ, zero, suc, ◌<◌, Bool, true, false, List, [], ◌∷◌, length, Result, Ok, Err, refl, sym, ap, ◌∙◌, arith, subst}
 use Rattle.book_answer.specs.Answers.{Answer, done, if_read, refusal}
 use Rattle.book_base.specs.declared.address.Pair.{Pair}
-use Rattle.book_draw_plan.specs.declared.form.PlanForm.{PlanForm}
-use Rattle.book_draw_plan.specs.declared.form.PlanForm.TheVariants.{Lines}
+use Rattle.book_scope_plan.specs.declared.form.PlanForm.{PlanForm}
+use Rattle.book_scope_plan.specs.declared.form.PlanForm.TheVariants.{Lines}
 use Rattle.book_keys.specs.Rows.{Table}
 use Rattle.book_keys.specs.declared.plan.Plan.{Plan}
 use Rattle.book_lines.specs.Said.{Said, said_in}

@@ -10,7 +10,7 @@ use Rattle.book_keys.specs.Nodes.{tables_of}
 use Rattle.book_keys.specs.Rows.{Table}
 use Rattle.book_keys.specs.declared.fault.TableFault.{TableFault}
 use Rattle.book_keys.specs.declared.plan.Plan.{Plan}
-use Rattle.book_draw_plan.specs.declared.form.PlanForm.{PlanForm}
+use Rattle.book_scope_plan.specs.declared.form.PlanForm.{PlanForm}
 use Rattle.book_scope_plan.specs.AdminNames.{KeyFile as Sheets}
 use Rattle.book_scope_run.specs.declared.halt.Halt.{Halt}
 use Rattle.book_scope_run.specs.declared.halt.Origin.TheVariants.{KeyFile, Input}
@@ -20,14 +20,14 @@ use Rattle.command_report.specs.declared.report.Report.{Report}
 use Rattle.page_draw_svg.specs.declared.placed.Form.{Form}
 use Rattle.packet_check.specs.Reading.{Checks as ChecksCapture}
 use Rattle.scope_draw.specs.Forms.{drawn, drawn_by_shared}
-use Rattle.scope_echo.specs.Forms.{echoed_by_shared, echoed_over}
+use Rattle.scope_draw.specs.EchoForms.{echoed_by_shared, echoed_over}
 use Rattle.scope_ladder.specs.declared.draw.LadderHalt.{LadderHalt}
 use Rattle.scope_ladder.specs.declared.draw.LadderRequest.{LadderRequest}
 use Rattle.scope_ladder.specs.Drawing.{request_of}
 use Rattle.scope_ladder.specs.Writing.{Writes as DrawsLadder}
 use Rattle.scope_lines.specs.declared.write.LinesHalt.{LinesHalt}
 use Rattle.scope_lines.specs.Writes.{Writes as WritesLines}
-use Rattle.key_file.specs.KeyFiles.{key_file_in}
+use Rattle.scope_keys.specs.KeyFiles.{key_file_in}
 use Rattle.scope_sessions.specs.Reading.{series_of}
 use Rattle.scope_sessions.specs.Writing.{Writes as WritesTables, at_end, retire_report}
 use Rattle.scope_sessions.specs.Writing.{table_report}

@@ -3,7 +3,7 @@ use Rattle.std.specs.Prelude.{◌≡◌, ◌↔◌, ℕ, ◌<◌, Bool, true, fa
 use Rattle.std.specs.Prelude.{Result, Ok, Err}
 use Rattle.ao_base.specs.Outside.{Side, WasWritten, Rose}
 use Rattle.book_answer.specs.Answers.{Answer, done, refusal}
-use Rattle.book_draw_plan.specs.declared.form.PlanForm.{PlanForm}
+use Rattle.book_scope_plan.specs.declared.form.PlanForm.{PlanForm}
 use Rattle.book_keys.specs.declared.plan.Plan.{Plan}
 use Rattle.book_keys.specs.Nodes.{tables_of}
 use Rattle.book_keys.specs.Rows.{Table}
@@ -20,7 +20,7 @@ use Rattle.book_scope_run.specs.Endings.{halt_status, halt_text}
 use Rattle.command_report.specs.declared.report.Report.{Report}
 use Rattle.scope_keys.specs.Reports.{IsKeyReport}
 use Rattle.scope_plan.specs.Plannings.{planned_answer}
-use Rattle.book_scope_keys.specs.FileFindings.{has_nodes}
+use Rattle.book_scope_texts.specs.FileFindings.{has_nodes}
 
 -- the answer without output of a run that ends early (own)
 abbrev pub ended : Halt → Answer

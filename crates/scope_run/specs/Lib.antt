@@ -5,3 +5,10 @@ pub mod Readings
 pub mod Requests
 pub mod Runs
 pub mod Sides
+pub mod WordsAnswers
+pub mod Lines
+pub mod Meanings
+pub mod WordsReadings
+pub mod Steps
+pub mod Tables
+pub mod Texts

@@ -13,8 +13,8 @@ use Rattle.book_scope_run.specs.declared.halt.Origin.TheVariants.{KeyFile, IsnFi
 use Rattle.book_scope_run.specs.Endings.{most_from}
 use Rattle.book_scope_plan.specs.AdminNames.{KeyFile as Sheets}
 use Rattle.book_sessions.specs.GivenLines.{given_isns_of}
-use Rattle.key_file.specs.KeyFiles.{key_file_in, key_file_of}
-use Rattle.key_file.specs.declared.reading.KeyFile.{KeyFile as FileRead}
+use Rattle.scope_keys.specs.KeyFiles.{key_file_in, key_file_of}
+use Rattle.scope_keys.specs.declared.reading.KeyFile.{KeyFile as FileRead}
 use Rattle.scope_run.specs.declared.reading.Files.{Files}
 use Rattle.scope_run.specs.declared.reading.Judged.{Judged}
 use Rattle.scope_run.specs.Sides.{Unread}

@@ -2,14 +2,14 @@
 use Rattle.std.specs.Prelude.{ℕ, Bool, true, false, List, [], Option, Some, None, option_map}
 use Rattle.std.specs.Prelude.{is_some, Result, Ok, Err, if◌then◌else◌}
 use Rattle.book_base.specs.Results.{◌>>=◌}
-use Rattle.book_draw_plan.specs.declared.form.PlanForm.{PlanForm}
-use Rattle.book_draw_plan.specs.declared.form.PlanForm.TheVariants as plan_form
+use Rattle.book_scope_plan.specs.declared.form.PlanForm.{PlanForm}
+use Rattle.book_scope_plan.specs.declared.form.PlanForm.TheVariants as plan_form
 use Rattle.book_keys.specs.declared.plan.Plan.{Plan}
 use Rattle.book_scope_run.specs.declared.halt.Halt.{Halt}
 use Rattle.book_scope_run.specs.Words.{drawn_alone, every_asked, laps_asked, numbered_packet}
 use Rattle.book_scope_run.specs.Words.{plan_asked, retired_alone, session_asked, within_asked}
-use Rattle.page_draw_session_svg.specs.declared.form.LadderForm.{LadderForm}
-use Rattle.page_draw_session_svg.specs.declared.form.LadderForm.TheVariants as ladder_form
+use Rattle.page_draw_svg.specs.declared.form.LadderForm.{LadderForm}
+use Rattle.page_draw_svg.specs.declared.form.LadderForm.TheVariants as ladder_form
 use Rattle.page_draw_svg.specs.declared.placed.Form.{Form}
 use Rattle.page_draw_svg.specs.declared.placed.Form.TheVariants as form
 use Rattle.page_sessions_json.specs.declared.form.TableForm.{TableForm}

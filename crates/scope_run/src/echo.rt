@@ -10,7 +10,7 @@ use crate::report::{made, write_report};
 use ao_base::{Sink, Source};
 use book_scope_run::{Halt, Origin};
 use key_table::Tables;
-use scope_echo::{answer_echo, answer_echo_keys};
+use scope_draw::{answer_echo, answer_echo_keys};
 use std::alloc::Global;
 
 /// Echoes a link file over these tables.

@@ -13,7 +13,7 @@ use ao_base::{Sink, Source};
 use book_scope_run::Halt;
 use book_sessions::GivenIsns;
 use key_table::Tables;
-use page_draw_session_svg::LadderForm;
+use page_draw_svg::LadderForm;
 use scope_ladder::{LadderRequest, draw_session};
 use std::alloc::Global;
 

@@ -4,7 +4,7 @@ ghost use Rattle.ao_base.specs.Outside.{Side};
 ghost use Rattle.book_keys.specs.Nodes.{tables_of};
 ghost use Rattle.book_scope_run.specs.Endings.{most_from};
 ghost use Rattle.book_sessions.specs.GivenLines.{given_isns_of};
-ghost use Rattle.key_file.specs.KeyFiles.{key_file_in, key_file_of};
+ghost use Rattle.scope_keys.specs.KeyFiles.{key_file_in, key_file_of};
 ghost use Rattle.scope_run.specs.Acts.{ReadsKeys};
 ghost use Rattle.scope_run.specs.Readings.{judged_files, sheets_of, IsnsFail, JudgesIsns, JudgesTexts, KeysGive};
 ghost use Rattle.scope_run.specs.Readings.{ReadsFiles, ReadsIf, ReadsJudged, ReadsWhole};
@@ -14,8 +14,8 @@ use ao_base::{Source, read_all};
 use book_base::Bytes;
 use book_scope_run::{Halt, Origin};
 use book_sessions::GivenIsns;
-use key_file::{KeyFile, read_key_file};
 use key_table::{MOST_KEYS, Tables, read_tables};
+use scope_keys::{KeyFile, read_key_file};
 use scope_sessions::read_given;
 use std::alloc::Global;
 

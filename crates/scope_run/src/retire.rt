@@ -1,7 +1,7 @@
 //! `sessions --retire`: whether the keys that a word names may go.
 ghost use Rattle.std.specs.Prelude.{◌≡◌, ℕ, List, Option, Some, option_map};
 ghost use Rattle.ao_base.specs.Outside.{Side};
-ghost use Rattle.key_file.specs.KeyFiles.{key_file_of};
+ghost use Rattle.scope_keys.specs.KeyFiles.{key_file_of};
 ghost use Rattle.scope_run.specs.Acts.{ReadsAndRetires, Retires, SessionsBy};
 ghost use Rattle.scope_run.specs.Halts.{retiring_end};
 ghost use Rattle.scope_run.specs.Requests.{retiring_wanted};
@@ -15,7 +15,7 @@ use ao_base::{Sink, Source};
 use book_scope_run::Halt;
 use book_sessions::GivenIsns;
 use capture_walk::WalkHalt;
-use key_file::KeyFile;
+use scope_keys::KeyFile;
 use scope_sessions::{Retiring, write_retiring};
 use std::alloc::Global;
 

@@ -1,7 +1,7 @@
 //! `sessions`: the tables of a capture.
 ghost use Rattle.std.specs.Prelude.{◌≡◌, ℕ, List, None};
 ghost use Rattle.ao_base.specs.Outside.{Side};
-ghost use Rattle.key_file.specs.KeyFiles.{key_file_of};
+ghost use Rattle.scope_keys.specs.KeyFiles.{key_file_of};
 ghost use Rattle.scope_run.specs.Acts.{ReadsAndTabulates, SessionsBy, Tabulates};
 ghost use Rattle.scope_run.specs.Requests.{table_form_of, tables_wanted};
 ghost use Rattle.scope_run.specs.Sides.{Flow, Given, Sides};
@@ -13,7 +13,7 @@ use crate::words::{every_asked, laps_asked};
 use ao_base::{Sink, Source};
 use book_scope_run::Halt;
 use book_sessions::GivenIsns;
-use key_file::KeyFile;
+use scope_keys::KeyFile;
 use scope_sessions::{TableForm, TableRequest, write_sessions};
 use std::alloc::Global;
 

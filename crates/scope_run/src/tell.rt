@@ -9,9 +9,9 @@ ghost use Rattle.scope_run.specs.Runs.{Tells};
 use ao_base::{Sink, push_decimal, write_all};
 use book_lines::LineKind;
 use book_scope_run::{Argument, Halt, Misuse, Origin, Wanted};
-use key_faults::push_key_fault;
-use scope_key_texts::push_shown_text;
+use command_report::push_key_fault;
 use scope_lines::push_fault;
+use scope_texts::push_shown_text;
 use std::alloc::{AllocError, Global};
 use text_lines::{push_newline, push_number, push_text};
 

@@ -1,7 +1,7 @@
 //! The word `why`.
 ghost use Rattle.std.specs.Prelude.{◌≡◌, ℕ, List};
 ghost use Rattle.ao_base.specs.Outside.{Side};
-ghost use Rattle.key_file.specs.KeyFiles.{key_file_of};
+ghost use Rattle.scope_keys.specs.KeyFiles.{key_file_of};
 ghost use Rattle.scope_run.specs.Acts.{Explains, ExplainsBy, ReadsAndExplains};
 ghost use Rattle.scope_run.specs.Requests.{why_wanted};
 ghost use Rattle.scope_run.specs.Sides.{Flow, Given, Sides};
@@ -13,7 +13,7 @@ use crate::words::numbered_packet;
 use ao_base::{Sink, Source};
 use book_scope_run::Halt;
 use book_sessions::GivenIsns;
-use key_file::KeyFile;
+use scope_keys::KeyFile;
 use scope_why::{WhyRequest, write_why};
 use std::alloc::Global;
 

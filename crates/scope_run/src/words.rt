@@ -7,8 +7,8 @@ ghost use Rattle.book_scope_run.specs.Words.{session_asked, time_allowed, time_b
 ghost use Rattle.book_base.specs.Decimals.{decimal_of};
 
 use ao_base::read_decimal;
-use book_cmd_keys::Plan;
-use book_draw_session::DrawnTime;
+use book_cmd_link::Plan;
+use book_draw::DrawnTime;
 use book_scope_run::{Argument, Halt, Misuse, Wanted};
 use key_table::LATEST;
 use scope_texts::{read_duration, read_instant};

@@ -6,7 +6,7 @@ use Rattle.ao_base.proofs.Sides.{took_and_none, took_more}
 use Rattle.book_captures.specs.declared.capture_parts.CaptureFault.{CaptureFault}
 use Rattle.book_captures.specs.Captures.{capture_of}
 use Rattle.page_sessions_json.specs.TableSeries.{Series, early_text, last_text, series_keys, series_text}
-use Rattle.key_file.specs.KeyFiles.{keys_at}
+use Rattle.scope_keys.specs.KeyFiles.{keys_at}
 use Rattle.capture_walk.specs.declared.walking.WalkHalt.{WalkHalt}
 use Rattle.capture_walk.specs.declared.walking.WalkHalt.TheVariants as halt
 use Rattle.scope_sessions.specs.declared.count.Counted.{Counted}

@@ -14,7 +14,7 @@ use Rattle.book_sessions.specs.Sessions.{SessionTable, no_sessions, sessions_fro
 use Rattle.page_sessions_json.specs.declared.form.TableRequest.{TableRequest}
 use Rattle.page_sessions_json.specs.TableSeries.{Series, counted_since, due_table, due_text, due_texts, early_text, second_seen}
 use Rattle.capture_listener.specs.Listeners.{Hearing, Knows}
-use Rattle.capture_stream.specs.Reads.{Reading, new_reading}
+use Rattle.capture_walk.specs.Reads.{Reading, new_reading}
 use Rattle.capture_walk.specs.declared.hearer.HearHalt.{HearHalt}
 use Rattle.capture_walk.specs.declared.hearer.HearHalt.TheVariants as hear_halt
 use Rattle.capture_walk.specs.declared.walking.WalkEnd.{WalkEnd}
@@ -26,7 +26,7 @@ use Rattle.capture_walk.specs.Walks.{Walks}
 use Rattle.capture_walk.proofs.Showing.{read_now, shown_none}
 use Rattle.capture_walk.proofs.Taken.{all_none}
 use Rattle.scope_sessions.specs.Counting.{CountsPacket, StandsAfter}
-use Rattle.key_file.specs.KeyFiles.{keys_at}
+use Rattle.scope_keys.specs.KeyFiles.{keys_at}
 use Rattle.scope_sessions.specs.Reading.{Counts, counted_with, fault_behind}
 use Rattle.scope_sessions.specs.Texts.{BreaksText, WritesText}
 

@@ -13,7 +13,7 @@ use Rattle.page_sessions_json.specs.declared.form.TableRequest.{TableRequest}
 use Rattle.page_sessions_json.specs.TableSeries.{Series, early_text}
 use Rattle.book_base.specs.Hexadecimal.{IsByte}
 use Rattle.capture_listener.specs.Listeners.{Hearing}
-use Rattle.capture_stream.specs.Reads.{most_read}
+use Rattle.capture_walk.specs.Reads.{most_read}
 use Rattle.scope_sessions.specs.declared.count.Counted.{Counted}
 use Rattle.scope_sessions.specs.Texts.{BreaksText}
 use Rattle.capture_walk.specs.HasRead.{HasRead}

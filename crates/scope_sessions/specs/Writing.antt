@@ -18,11 +18,11 @@ use Rattle.page_sessions_json.specs.declared.form.TableRequest.{TableRequest}
 use Rattle.page_sessions_json.specs.Forms.{written_as}
 use Rattle.page_sessions_json.specs.TableSeries.{Series, early_text, series_keys, series_text}
 use Rattle.book_base.specs.Hexadecimal.{IsByte}
-use Rattle.capture_stream.specs.Reads.{most_read}
+use Rattle.capture_walk.specs.Reads.{most_read}
 use Rattle.scope_sessions.specs.declared.count.Counted.{Counted}
 use Rattle.capture_walk.specs.declared.walking.WalkHalt.{WalkHalt}
 use Rattle.capture_walk.specs.declared.walking.WalkHalt.TheVariants as halt
-use Rattle.key_file.specs.KeyFiles.{keys_at}
+use Rattle.scope_keys.specs.KeyFiles.{keys_at}
 use Rattle.scope_sessions.specs.Reading.{BreaksEarly, IsWhole, Lacks, Stops}
 use Rattle.scope_sessions.specs.Texts.{BreaksText}
 use Rattle.capture_walk.specs.HasRead.{HasRead}

@@ -14,14 +14,14 @@ use crate::due::{counted_since, second_of, write_due};
 use crate::stored::count_stored;
 use ao_base::{Sink, Source, Steps};
 use book_sessions::{GivenIsns, PassedOver};
-use capture_listener::Listener;
+use capture_listener::{Listener, SessionIndex};
 use capture_reader::FoundDatagram;
-use capture_stream::{CaptureFault, CaptureReader, Skipped};
-use capture_walk::{HearHalt, Heard, Hearer, WalkEnd, WalkHalt, walk};
+use capture_walk::{
+    CaptureFault, CaptureReader, HearHalt, Heard, Hearer, Skipped, WalkEnd, WalkHalt, walk,
+};
 use key_table::Tables;
 use page_sessions_json::TableRequest;
 use scope_lines::judged;
-use session_index::SessionIndex;
 use std::alloc::{AllocError, Global};
 use std::marker::Brand;
 use std::sync::ledger::{Blank, Ledger};

@@ -4,17 +4,17 @@ ghost use Rattle.toml.specs.View.{table_view};
 ghost use Rattle.ao_base.specs.Outside.{Side};
 ghost use Rattle.page_sessions_json.specs.Forms.{written_as};
 ghost use Rattle.page_sessions_json.specs.TableSeries.{counted_since, due_table, is_table_due, time_line};
-ghost use Rattle.key_file.specs.KeyFiles.{keys_at};
+ghost use Rattle.scope_keys.specs.KeyFiles.{keys_at};
 ghost use Rattle.scope_sessions.specs.Texts.{WritesText};
 
 use crate::json_table::push_json;
 use crate::session_texts::push_time;
 use crate::table_text::push_table;
 use ao_base::{Failed, Sink, write_all};
+use capture_listener::SessionIndex;
 use capture_walk::HearHalt;
 use key_table::Tables;
 use page_sessions_json::{TableForm, TableRequest};
-use session_index::SessionIndex;
 use std::alloc::{AllocError, Global};
 use text_lines::push_newline;
 

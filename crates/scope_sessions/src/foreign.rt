@@ -12,9 +12,8 @@ use crate::table_text::all_counted;
 use ao_base::push_decimal;
 use book_base::Address;
 use book_sessions::{KeyUse, Protection};
+use capture_listener::{SessionIndex, is_verified};
 use key_table::Tables;
-use scope_retiring::is_verified;
-use session_index::SessionIndex;
 use std::alloc::{AllocError, Global};
 use text_lines::{push_field, push_newline};
 

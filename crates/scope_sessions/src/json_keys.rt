@@ -5,7 +5,7 @@ ghost use Rattle.toml.specs.View.{table_view};
 ghost use Rattle.page_sessions_json.specs.Json.{json_items, json_member};
 ghost use Rattle.page_sessions_json.specs.SessionJson.{asked_for_json, key_json, keys_json, last_used_json};
 ghost use Rattle.page_sessions_json.specs.SessionJson.{may_go_json, name_json, peers_json, rows_json};
-ghost use Rattle.key_file.specs.KeyFiles.{keys_at};
+ghost use Rattle.scope_keys.specs.KeyFiles.{keys_at};
 ghost use Rattle.scope_sessions.specs.JsonParts.{from_members, id_members, node_members, seen_members, state_members};
 ghost use Rattle.scope_sessions.specs.JsonParts.{told_members};
 
@@ -13,9 +13,9 @@ use crate::json_values::{push_address_text, push_comma, push_name, push_string, 
 use crate::users::{first_asking, last_carrying};
 use ao_base::push_decimal;
 use book_sessions::{KeyUse, MayGo};
+use capture_listener::{Evidence, may_go, peers_told};
 use key_table::{Row, Table, Tables};
 use plan_texts::admin_name;
-use scope_retiring::{Evidence, may_go, peers_told};
 use std::alloc::{AllocError, Global};
 
 // Puts the first members of a use of a row behind `out`: its time and its packet.

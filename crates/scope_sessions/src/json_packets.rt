@@ -10,8 +10,7 @@ use crate::session_texts::earliest_seen;
 use crate::table_text::{all_counted, all_passed};
 use ao_base::push_decimal;
 use book_sessions::{KeyUse, PassedCount, PassedOver};
-use scope_retiring::latest_seen;
-use session_index::SessionIndex;
+use capture_listener::{SessionIndex, latest_seen};
 use std::alloc::{AllocError, Global};
 
 // Puts why packets are passed over behind `out`.

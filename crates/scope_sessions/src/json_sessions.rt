@@ -15,7 +15,7 @@ use crate::session_texts::{first_of, is_of_session, is_opened};
 use ao_base::{is_same_socket, push_decimal};
 use book_base::Socket;
 use book_sessions::{KeyUse, Protection};
-use session_index::{SessionIndex, outcome_word};
+use capture_listener::{SessionIndex, outcome_word};
 use std::alloc::{AllocError, Global};
 
 #[tactic(auto, unfolding(page_sessions_json::specs::SessionJson::end_json))]

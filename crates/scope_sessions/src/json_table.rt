@@ -5,7 +5,7 @@ ghost use Rattle.book_sessions.specs.Retiring.{evidence_of};
 ghost use Rattle.page_sessions_json.specs.Json.{json_array, json_bool, json_member, json_object};
 ghost use Rattle.page_sessions_json.specs.SessionJson.{foreign_json, keys_json, packets_json, session_json};
 ghost use Rattle.page_sessions_json.specs.SessionJson.{sessions_json};
-ghost use Rattle.key_file.specs.KeyFiles.{keys_at};
+ghost use Rattle.scope_keys.specs.KeyFiles.{keys_at};
 
 use crate::foreign::{Numbers, numbers_of, segments_of};
 use crate::json_keys::push_keys;
@@ -14,9 +14,8 @@ use crate::json_sessions::push_sessions;
 use crate::json_values::{push_bool, push_name};
 use crate::table_text::has_amiss;
 use ao_base::push_decimal;
+use capture_listener::{Evidence, SessionIndex};
 use key_table::Tables;
-use scope_retiring::Evidence;
-use session_index::SessionIndex;
 use std::alloc::{AllocError, Global};
 
 fn push_counts(out: &mut Vec<u8>, sessions: u64, segments: u64) -> Result<(), AllocError>

@@ -8,15 +8,14 @@ ghost use Rattle.book_sessions.specs.NamedKeys.{retire_answer, retire_answers, r
 ghost use Rattle.book_sessions.specs.NamedKeys.{retire_status, retiring_of};
 ghost use Rattle.book_sessions.specs.KeyLines.{key_line};
 ghost use Rattle.book_sessions.specs.Retiring.{evidence_of, is_id, may_go};
-ghost use Rattle.key_file.specs.KeyFiles.{keys_at};
+ghost use Rattle.scope_keys.specs.KeyFiles.{keys_at};
 
 use crate::key_texts::push_key;
 use ao_base::read_decimal;
 use book_sessions::{MayGo, Retiring};
+use capture_listener::{Evidence, SessionIndex, may_go};
 use key_table::{Row, Table, Tables};
 use plan_texts::admin_name;
-use scope_retiring::{Evidence, may_go};
-use session_index::SessionIndex;
 use std::alloc::{AllocError, Global};
 
 fn is_called(word: &[u8], name: Option<&str>) -> bool

@@ -7,16 +7,16 @@ ghost use Rattle.book_sessions.specs.KeyLines.{absent_line, absent_text, doubt_l
 ghost use Rattle.book_sessions.specs.KeyLines.{held_text, is_peer_told, lacking_line, lines_without, obstacle_by};
 ghost use Rattle.book_sessions.specs.KeyLines.{obstacle_line, obstacle_lines, unanswered_line, unseen_line};
 ghost use Rattle.book_sessions.specs.Retiring.{all_without, goes_from, is_of_peer, shows_peer};
-ghost use Rattle.scope_retiring.specs.Known.{HasSession};
+ghost use Rattle.capture_listener.specs.Known.{HasSession};
 
 use crate::session_texts::{push_host, push_time};
 use book_base::{Address, Socket};
 use book_sessions::{KeyUse, SegmentOutcome};
-use key_table::{Row, Table, Tables};
-use scope_retiring::{
+use capture_listener::{
     Evidence, all_without, asks_for_row, carries_row, goes_from, goes_without, is_at_row,
     is_of_peer, leaves_use, returns_without, sees_peer,
 };
+use key_table::{Row, Table, Tables};
 use std::alloc::AllocError;
 use text_lines::{push_field, push_newline, push_text};
 

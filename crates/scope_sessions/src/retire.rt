@@ -10,8 +10,8 @@ use crate::named_keys::push_retiring;
 use ao_base::{Failed, Sink, Source, write_all};
 use book_sessions::{GivenIsns, Retiring};
 use capture_walk::WalkHalt;
-use key_file::KeyFile;
 use page_sessions_json::{TableForm, TableRequest};
+use scope_keys::KeyFile;
 use std::alloc::Global;
 
 /// No table is asked for in front of a packet.

@@ -11,9 +11,8 @@ ghost use Rattle.book_sessions.specs.SessionTexts.{span_texts, use_line, use_lin
 
 use book_base::{Address, Socket};
 use book_sessions::{KeyUse, Protection};
-use scope_retiring::{is_verified, latest_seen};
+use capture_listener::{SessionIndex, is_verified, latest_seen, outcome_word};
 use scope_texts::{push_address, push_instant};
-use session_index::{SessionIndex, outcome_word};
 use std::alloc::{AllocError, Global};
 use text_lines::{push_field, push_newline, push_number, push_text};
 

@@ -9,8 +9,7 @@ ghost use Rattle.scope_sessions.specs.Counting.{CountsJudged, CountsStored, stor
 
 use crate::heard::hear;
 use ao_base::Steps;
-use capture_listener::{Listener, is_segment, mended};
-use session_index::SessionIndex;
+use capture_listener::{Listener, SessionIndex, is_segment, mended};
 use std::alloc::{AllocError, Global};
 use std::sync::ledger::Ledger;
 

@@ -6,7 +6,7 @@ ghost use Rattle.book_sessions.specs.Counts.{all_counted, all_passed};
 ghost use Rattle.toml.specs.View.{table_view};
 ghost use Rattle.book_sessions.specs.SessionTexts.{lines_of_session, unset_line};
 ghost use Rattle.book_sessions.specs.TableTexts.{foreign_lines, has_amiss, is_none, sessions_text};
-ghost use Rattle.key_file.specs.KeyFiles.{keys_at};
+ghost use Rattle.scope_keys.specs.KeyFiles.{keys_at};
 
 use crate::foreign::{Numbers, have_unverified, numbers_of, push_foreign};
 use crate::key_texts::push_keys;
@@ -14,9 +14,8 @@ use crate::passed_texts::push_counts;
 use crate::session_texts::{push_capture, push_sessions};
 use ao_base::push_decimal;
 use book_sessions::{KeyUse, PassedCount};
+use capture_listener::{Evidence, SessionIndex, has_doubtful};
 use key_table::Tables;
-use scope_retiring::{Evidence, has_doubtful};
-use session_index::SessionIndex;
 use std::alloc::{AllocError, Global};
 use text_lines::push_newline;
 

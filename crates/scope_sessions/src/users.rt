@@ -3,11 +3,11 @@ ghost use Rattle.std.specs.Prelude.{◌≡◌, Some, if◌then◌else◌};
 ghost use Rattle.std.specs.List.{find};
 ghost use Rattle.book_sessions.specs.KeyLines.{asks_still, last_of, later_of};
 ghost use Rattle.book_sessions.specs.Retiring.{carries_row};
-ghost use Rattle.scope_retiring.specs.Known.{HasSession};
+ghost use Rattle.capture_listener.specs.Known.{HasSession};
 
 use book_sessions::KeyUse;
+use capture_listener::{Evidence, asks_for_row, carries_row, goes_without};
 use key_table::{Row, Table};
-use scope_retiring::{Evidence, asks_for_row, carries_row, goes_without};
 
 fn later_of(one: &KeyUse, last: Option<KeyUse>) -> KeyUse
     ensures { result ≡ later_of one.now last }

@@ -11,8 +11,8 @@ use crate::table_text::has_amiss;
 use ao_base::{Failed, Sink, Source, write_all};
 use book_sessions::GivenIsns;
 use capture_walk::WalkHalt;
-use key_file::KeyFile;
 use page_sessions_json::TableRequest;
+use scope_keys::KeyFile;
 use std::alloc::Global;
 
 // Writes the table of what was counted.

@@ -4,7 +4,7 @@ ghost use Rattle.std.specs.Prelude.{◌≡◌, false};
 use crate::files::{PCAP, PCAPNG};
 use ao_base::MemSource;
 use book_base::{Bytes, Numbers};
-use capture_stream::{CaptureHalt, CaptureReader, CaptureStep};
+use capture_walk::{CaptureHalt, CaptureReader, CaptureStep};
 use std::alloc::{AllocError, Global};
 use std::test::Fail;
 

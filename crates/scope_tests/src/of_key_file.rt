@@ -1,7 +1,7 @@
 //! Key files that aren't read: the fault, and the first thing that is found.
 use book_keys::{Column, TableFault};
-use book_scope_keys::KeyFinding;
-use key_file::{findings_of, read_key_file};
+use book_scope_texts::KeyFinding;
+use scope_keys::{findings_of, read_key_file};
 use std::alloc::Global;
 use std::test::Fail;
 

@@ -3,7 +3,7 @@ use Rattle.std.proofs.Common.{ℕ, Bool, List, Result, Ok, Err}
 use Rattle.ao_base.specs.Outside.{Side}
 use Rattle.ao_base.proofs.Sides.{took_none}
 use Rattle.book_scope_plan.specs.AdminNames.{KeyFile}
-use Rattle.book_why_texts.specs.Answers.{WhyAsked}
+use Rattle.book_why.specs.Answers.{WhyAsked}
 use Rattle.capture_walk.specs.declared.walking.WalkHalt.{WalkHalt}
 use Rattle.capture_walk.specs.declared.walking.WalkHalt.TheVariants as halt
 use Rattle.scope_why.specs.declared.answer.Answered.{Answered}

@@ -9,8 +9,8 @@ use Rattle.book_segments.specs.Segments.{Bad, Read, Reading, Segment, reading}
 use Rattle.book_sessions.specs.declared.outcome.PassedOver.{PassedOver}
 use Rattle.book_sessions.specs.declared.outcome.PassedOver.TheVariants as passed
 use Rattle.book_sessions.specs.AsSent.{lacks_checksum, mended, told_fault}
-use Rattle.book_why_texts.specs.Answers.{Behind, answer_to_reading, no_segment_line, said_and_why, segment_line, unset_text}
-use Rattle.book_why_texts.specs.OtherIsns.{told_by_reading}
+use Rattle.book_why.specs.Answers.{Behind, answer_to_reading, no_segment_line, said_and_why, segment_line, unset_text}
+use Rattle.book_why.specs.OtherIsns.{told_by_reading}
 use Rattle.capture_check.specs.declared.answer.CheckLine.{CheckLine}
 use Rattle.book_base.specs.declared.address.Pair.{Pair}
 use Rattle.capture_check.specs.declared.flows.Flows.{Flows}

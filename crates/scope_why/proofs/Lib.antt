@@ -6,3 +6,7 @@ pub mod RowLaws
 pub mod SaidLaws
 pub mod SightLaws
 pub mod Walk
+pub mod FrontParts
+pub mod Keeping
+pub mod PartLaws
+pub mod ZerosLaws

@@ -1,7 +1,7 @@
 -- Texts put behind one another, part by part.
 use Rattle.std.proofs.Common.{◌≡◌, ℕ, Bool, false, List, [], ◌∷◌, ◌++◌, ◌∙◌, append_assoc, Result, Ok, Err, OnOk, refl, ap, sym}
 use Rattle.book_lines.specs.Texts.{spaced}
-use Rattle.book_why_texts.specs.Lacks.{lack}
+use Rattle.book_why.specs.Lacks.{lack}
 
 module _ {E : Type 0} where
   pub on_two : (r : Result (Unit {0}) E) (out a b one new : List ℕ) → one ≡ out ++ a → OnOk r (new ≡ one ++ b) → OnOk r (new ≡ out ++ (a ++ b))

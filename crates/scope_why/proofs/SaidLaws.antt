@@ -4,7 +4,7 @@ use Rattle.std.specs.Prelude.{codes, decimal, option_map, if◌then◌else◌}
 use Rattle.std.specs.List.{find}
 use Rattle.toml.specs.Data.{Members}
 use Rattle.toml.specs.View.{table_view}
-use Rattle.book_cmd_show.specs.declared.checksum.Checksum.{Checksum}
+use Rattle.book_cmd_check.specs.declared.checksum.Checksum.{Checksum}
 use Rattle.book_cmd_check.specs.declared.given.GivenIsns.{GivenIsns}
 use Rattle.book_cmd_check.specs.Captures.{Connection, Heard, most_connections, Saying, Judged, TooManyConnections, Unreadable, UnknownNode, connection_between, hear_at, hear_read, is_pass, saying_texts}
 use Rattle.book_endpoint.specs.declared.refusal.Refusal.{Refusal}
@@ -21,12 +21,12 @@ use Rattle.book_segments.specs.Sockets.{same_socket}
 use Rattle.book_base.specs.declared.address.Socket.{Socket}
 use Rattle.book_why.specs.declared.change.IsnPair.{IsnPair}
 use Rattle.book_why.specs.Recipes.{Suspect}
-use Rattle.book_why_texts.specs.Answers.{Behind, inquiry_of, reason_lines, said_and_why, said_behind, sight_behind}
-use Rattle.book_why_texts.specs.Inquiries.{Inquiry, changes_lines, if_found, length_line, no_handshake_line, passing_values, range_line, refusal_lines, row_taking_line, values_lines, why_lines, isns_line, number_line, wrong_mac_lines}
-use Rattle.book_why_texts.specs.Lacks.{row_shown_line}
-use Rattle.book_why_texts.specs.MacTexts.{mac_lines}
-use Rattle.book_why_texts.specs.OtherIsns.{other_isns}
-use Rattle.book_why_texts.specs.Sights.{Sight, ao_at, isns_at, number_at, row_at, suspect_at}
+use Rattle.book_why.specs.Answers.{Behind, inquiry_of, reason_lines, said_and_why, said_behind, sight_behind}
+use Rattle.book_why.specs.Inquiries.{Inquiry, changes_lines, if_found, length_line, no_handshake_line, passing_values, range_line, refusal_lines, row_taking_line, values_lines, why_lines, isns_line, number_line, wrong_mac_lines}
+use Rattle.book_why.specs.Lacks.{row_shown_line}
+use Rattle.book_why.specs.MacTexts.{mac_lines}
+use Rattle.book_why.specs.OtherIsns.{other_isns}
+use Rattle.book_why.specs.Sights.{Sight, ao_at, isns_at, number_at, row_at, suspect_at}
 use Rattle.capture_check.specs.declared.answer.CheckLine.{CheckLine}
 use Rattle.capture_check.specs.declared.answer.CheckLine.TheVariants as line
 use Rattle.capture_check.specs.declared.known.KnownConnection.{KnownConnection}

@@ -4,12 +4,12 @@ use Rattle.std.proofs.lemmas.List.{append-nil}
 use Rattle.book_base.specs.Results.{◌>>=◌, or_fault}
 use Rattle.book_segments.specs.Meant.{meant}
 use Rattle.book_segments.specs.Segments.{has, SYN}
-use Rattle.book_why_texts.specs.Inquiries.{if_found}
+use Rattle.book_why.specs.Inquiries.{if_found}
 use Rattle.book_why.specs.declared.change.IsnPair.{IsnPair}
 use Rattle.book_keys.specs.Choices.{Numbered}
 use Rattle.book_segments.specs.Options.{Ao}
 use Rattle.book_endpoint.specs.declared.refusal.Refusal.TheVariants.{NoContext, Range}
-use Rattle.book_why_texts.specs.Sights.{Sight, ao_at, isns_at, known_at, number_at, row_at, suspect_at}
+use Rattle.book_why.specs.Sights.{Sight, ao_at, isns_at, known_at, number_at, row_at, suspect_at}
 use Rattle.scope_why.specs.Finding.{Finds, Lacking}
 
 pub lacking_first : {A B F : Type 0} (r : Result A F) (f : A → Result B F) → Lacking r → Lacking (r >>= f)

@@ -20,15 +20,15 @@ use Rattle.book_scope_plan.specs.AdminNames.{KeyFile}
 use Rattle.book_segments.specs.Segments.{reading}
 use Rattle.book_sessions.specs.declared.outcome.PassedOver.{PassedOver}
 use Rattle.book_sessions.specs.Sessions.{all_stored, captured_of_packet, judged_of, stored_before, stored_of_packet}
-use Rattle.book_why_texts.specs.Answers.{Behind, WhyAsked, behind_stored, has_number, no_packet_line, why_passes, why_text}
-use Rattle.book_why_texts.specs.OtherIsns.{told_by_reading, told_by_stored}
-use Rattle.book_why_texts.proofs.AnswerLaws.{missing_told, pass_told, text_told}
+use Rattle.book_why.specs.Answers.{Behind, WhyAsked, behind_stored, has_number, no_packet_line, why_passes, why_text}
+use Rattle.book_why.specs.OtherIsns.{told_by_reading, told_by_stored}
+use Rattle.book_why.proofs.AnswerLaws.{missing_told, pass_told, text_told}
 use Rattle.capture_check.specs.Checkers.{Checking, StandsFor}
 use Rattle.book_base.specs.declared.address.Pair.{Pair}
 use Rattle.capture_check.specs.declared.flows.Flows.{Flows}
-use Rattle.capture_stream.specs.declared.reader.CaptureStep.TheVariants as step
-use Rattle.capture_stream.specs.declared.reader.CaptureHalt.TheVariants as stream_halt
-use Rattle.capture_stream.specs.Reads.{Reading, most_ahead, most_buffered, new_reading, ShowsNone, Passes, Steps, to_come}
+use Rattle.capture_walk.specs.declared.reader.CaptureStep.TheVariants as step
+use Rattle.capture_walk.specs.declared.reader.CaptureHalt.TheVariants as stream_halt
+use Rattle.capture_walk.specs.Reads.{Reading, most_ahead, most_buffered, new_reading, ShowsNone, Passes, Steps, to_come}
 use Rattle.capture_walk.proofs.Taken.{all_broken, all_ended, all_none, bytes_all, gave_all, has_read, no_more, none_shown, read_more, rose_read, shows_more, stays_broken, taken_more, taken_none, too_many}
 use Rattle.capture_walk.proofs.Showing.{read_now, shown_none}
 use Rattle.scope_why.specs.declared.answer.Answered.{Answered}

@@ -6,9 +6,9 @@ use Rattle.book_keys.specs.Rows.{Table, has_address}
 use Rattle.book_lines.specs.Texts.{line_text}
 use Rattle.book_scope_texts.specs.Addresses.{usual_address_text}
 use Rattle.book_why.specs.declared.change.IsnPair.{IsnPair}
-use Rattle.book_why_texts.specs.Inquiries.{Inquiry}
-use Rattle.book_why_texts.specs.OtherIsns.{other_isns}
-use Rattle.book_why_texts.specs.Sights.{Sight, isns_at}
+use Rattle.book_why.specs.Inquiries.{Inquiry}
+use Rattle.book_why.specs.OtherIsns.{other_isns}
+use Rattle.book_why.specs.Sights.{Sight, isns_at}
 use Rattle.capture_check.specs.declared.answer.CheckLine.{CheckLine}
 use Rattle.scope_why.specs.declared.facts.Facts.{Facts}
 use Rattle.scope_why.specs.Finding.{lines_of_said}

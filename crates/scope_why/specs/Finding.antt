@@ -3,7 +3,7 @@ use Rattle.std.specs.Prelude.{◌≡◌, ◌≤◌, ◌^◌, ℕ, List, [], ◌+
 use Rattle.ao_check.specs.Verdicts.{Verdict}
 use Rattle.book_cmd_check.specs.Captures.{most_connections}
 use Rattle.book_keys.specs.Choices.{Numbered}
-use Rattle.book_why_texts.specs.Inquiries.{Inquiry, passing_values, refusal_lines}
+use Rattle.book_why.specs.Inquiries.{Inquiry, passing_values, refusal_lines}
 use Rattle.capture_check.specs.declared.answer.CheckLine.{CheckLine}
 use Rattle.capture_check.specs.declared.answer.CheckLine.TheVariants as line
 use Rattle.scope_why.specs.declared.inquiry.Inquiry as code

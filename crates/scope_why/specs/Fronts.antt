@@ -5,8 +5,8 @@ use Rattle.book_segments.specs.Segments.{reading}
 use Rattle.book_cmd_check.specs.declared.given.GivenIsns.{GivenIsns}
 use Rattle.book_cmd_check.specs.Captures.{Stored, hear}
 use Rattle.book_sessions.specs.declared.outcome.PassedOver.{PassedOver}
-use Rattle.book_why_texts.specs.Answers.{Behind}
-use Rattle.book_why_texts.specs.OtherIsns.{told_by_reading}
+use Rattle.book_why.specs.Answers.{Behind}
+use Rattle.book_why.specs.OtherIsns.{told_by_reading}
 use Rattle.book_base.specs.declared.address.Pair.{Pair}
 use Rattle.capture_check.specs.declared.flows.Flows.{Flows}
 use Rattle.capture_check.specs.Checkers.{StandsFor}

@@ -5,3 +5,5 @@ pub mod Reading
 pub mod Replies
 pub mod Views
 pub mod Writing
+pub mod MacsViews
+pub mod Parts

@@ -6,8 +6,8 @@ use Rattle.book_base.specs.Hexadecimal.{IsByte}
 use Rattle.book_captures.specs.declared.capture_parts.CaptureFault.{CaptureFault}
 use Rattle.book_captures.specs.Captures.{CapturePacket, capture_of}
 use Rattle.book_scope_plan.specs.AdminNames.{KeyFile}
-use Rattle.book_why_texts.specs.Answers.{WhyAsked, has_number, why_passes, why_text}
-use Rattle.capture_stream.specs.Reads.{most_buffered, most_read}
+use Rattle.book_why.specs.Answers.{WhyAsked, has_number, why_passes, why_text}
+use Rattle.capture_walk.specs.Reads.{most_buffered, most_read}
 use Rattle.scope_why.specs.declared.answer.Answered.{Answered}
 use Rattle.capture_walk.specs.declared.walking.WalkHalt.{WalkHalt}
 use Rattle.capture_walk.specs.declared.walking.WalkHalt.TheVariants as halt

@@ -10,8 +10,8 @@ use Rattle.book_sessions.specs.declared.outcome.PassedOver.{PassedOver}
 use Rattle.book_sessions.specs.Sessions.{judged_of}
 use Rattle.book_sessions.specs.AsSent.{told_fault}
 use Rattle.book_sessions.specs.declared.outcome.PassedOver.TheVariants as passed
-use Rattle.book_why_texts.specs.Answers.{Behind, WhyAsked, answer_behind, no_segment_line, passes_behind}
-use Rattle.book_why_texts.specs.Answers.{said_and_why, said_behind, segment_line, unset_text}
+use Rattle.book_why.specs.Answers.{Behind, WhyAsked, answer_behind, no_segment_line, passes_behind}
+use Rattle.book_why.specs.Answers.{said_and_why, said_behind, segment_line, unset_text}
 use Rattle.scope_why.specs.declared.question.Question.{Question}
 use Rattle.scope_why.specs.declared.answer.Answered.{Answered}
 

@@ -3,8 +3,8 @@ use Rattle.std.specs.Prelude.{option_map}
 use Rattle.toml.specs.View.{table_view}
 use Rattle.book_segments.specs.Segments.{Segment}
 use Rattle.book_cmd_check.specs.Captures.{Connection}
-use Rattle.book_why_texts.specs.Inquiries as book
-use Rattle.book_why_texts.specs.Sights.{Sight}
+use Rattle.book_why.specs.Inquiries as book
+use Rattle.book_why.specs.Sights.{Sight}
 use Rattle.capture_check.specs.declared.known.KnownConnection.{KnownConnection}
 use Rattle.scope_why.specs.declared.inquiry.Inquiry.{Inquiry}
 

@@ -5,8 +5,8 @@ use Rattle.ao_base.specs.Outside.{Side, Gave, WasWritten, Rose}
 use Rattle.book_base.specs.Hexadecimal.{IsByte}
 use Rattle.book_cmd_check.specs.declared.given.GivenIsns.{GivenIsns}
 use Rattle.book_scope_plan.specs.AdminNames.{KeyFile}
-use Rattle.book_why_texts.specs.Answers.{WhyAsked}
-use Rattle.capture_stream.specs.Reads.{most_read}
+use Rattle.book_why.specs.Answers.{WhyAsked}
+use Rattle.capture_walk.specs.Reads.{most_read}
 use Rattle.scope_sessions.specs.Texts.{BreaksText}
 use Rattle.scope_why.specs.declared.answer.Answered.{Answered}
 use Rattle.capture_walk.specs.declared.walking.WalkHalt.{WalkHalt}

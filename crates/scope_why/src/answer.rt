@@ -6,7 +6,7 @@ ghost use Rattle.book_keys.specs.Rows.{has_address};
 ghost use Rattle.book_lines.specs.Texts.{line_text};
 ghost use Rattle.book_scope_texts.specs.Addresses.{usual_address_text};
 ghost use Rattle.book_segments.specs.Segments.{Bad, Read, reading};
-ghost use Rattle.book_why_texts.specs.Answers.{Behind, no_segment_line, unset_text};
+ghost use Rattle.book_why.specs.Answers.{Behind, no_segment_line, unset_text};
 ghost use Rattle.scope_why.specs.Facts.{AreWithin, inquiry_by, reason_by, with_others};
 ghost use Rattle.scope_why.specs.Finding.{IsWithin, lines_of_said};
 ghost use Rattle.scope_why.specs.Fronts.{StandsBehind, stored_as};

@@ -3,9 +3,9 @@ ghost use Rattle.std.specs.Prelude.{◌≡◌, ◌<◌, [], ℕ, false, IfOk, Li
 ghost use Rattle.ao_base.specs.Outside.{Side};
 ghost use Rattle.book_cmd_check.specs.Handshakes.{given_after};
 ghost use Rattle.book_scope_plan.specs.AdminNames.{KeyFile};
-ghost use Rattle.book_why_texts.specs.Answers.{WhyAsked, no_packet_line};
+ghost use Rattle.book_why.specs.Answers.{WhyAsked, no_packet_line};
 ghost use Rattle.capture_check.specs.Checkers.{StandsFor};
-ghost use Rattle.capture_stream.specs.Reads.{new_reading};
+ghost use Rattle.capture_walk.specs.Reads.{new_reading};
 ghost use Rattle.scope_why.specs.Reading.{Reads};
 ghost use Rattle.scope_why.specs.Replies.{asked_of, key_file_of};
 
@@ -17,8 +17,7 @@ use crate::shown::stored_shown;
 use ao_base::{Source, Steps};
 use book_sessions::GivenIsns;
 use capture_check::Checker;
-use capture_stream::{CaptureHalt, CaptureReader, CaptureStep};
-use capture_walk::WalkHalt;
+use capture_walk::{CaptureHalt, CaptureReader, CaptureStep, WalkHalt};
 use key_table::Tables;
 use std::alloc::{AllocError, Global};
 use std::marker::Brand;

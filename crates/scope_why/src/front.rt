@@ -1,6 +1,6 @@
 //! Packets in front of the one that is asked for.
 ghost use Rattle.std.specs.Prelude.{◌≡◌, ℕ, IfOk, OnOk, Ok};
-ghost use Rattle.book_why_texts.specs.Answers.{Behind};
+ghost use Rattle.book_why.specs.Answers.{Behind};
 ghost use Rattle.book_sessions.specs.Sessions.{judged_of};
 ghost use Rattle.scope_why.specs.Fronts.{StandsBehind, behind_one, stored_as};
 

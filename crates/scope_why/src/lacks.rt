@@ -1,7 +1,7 @@
 //! What a row lacks to take a segment.
 ghost use Rattle.std.specs.Prelude.{◌≡◌, ◌++◌, ◌==◌, nat_le, OnOk, codes, decimal};
 ghost use Rattle.book_scope_texts.specs.Instants.{instant_text};
-ghost use Rattle.book_why_texts.specs.Lacks.{lack, lacks, lifetime_lacks, pair_lacks};
+ghost use Rattle.book_why.specs.Lacks.{lack, lacks, lifetime_lacks, pair_lacks};
 
 use ao_base::push_decimal;
 use book_base::Pair;
@@ -87,7 +87,7 @@ fn push_id_lack(out: &mut Vec<u8>, recv_id: u8, id: u8) -> Result<(), AllocError
 
 /// Puts what a row lacks to take a segment with these sockets and this KeyID at this time, in seconds since
 /// 1970, behind `out`: nothing exactly where it takes it. Where memory runs out a part of it may stand there.
-#[tactic(auto, unfolding(book_why_texts::specs::Lacks::lacks))]
+#[tactic(auto, unfolding(book_why::specs::Lacks::lacks))]
 pub(crate) fn push_lacks(
     out: &mut Vec<u8>,
     row: &Row,

@@ -1,23 +1,24 @@
 //! What is told of the MAC of a segment: its length, how it is made, and what would make it right.
 ghost use Rattle.std.specs.Prelude.{◌≡◌, ◌++◌, OnOk, length};
 ghost use Rattle.book_segments.specs.Options.{One, find_ao};
-ghost use Rattle.book_why_texts.specs.Inquiries.{changes_lines, if_found, length_line, lengths_line, passing_values};
-ghost use Rattle.book_why_texts.specs.Inquiries.{row_taking_line, values_lines, wrong_mac_lines};
-ghost use Rattle.book_why_texts.specs.MacTexts.{mac_lines};
-ghost use Rattle.book_why_texts.specs.Sights.{ao_at, row_at, suspect_at};
-ghost use Rattle.tcp_options.specs.Views.{view_ao};
-ghost use Rattle.why_macs.specs.Views.{suspect_view};
+ghost use Rattle.book_why.specs.Inquiries.{changes_lines, if_found, length_line, lengths_line, passing_values};
+ghost use Rattle.book_why.specs.Inquiries.{row_taking_line, values_lines, wrong_mac_lines};
+ghost use Rattle.book_why.specs.MacTexts.{mac_lines};
+ghost use Rattle.book_why.specs.Sights.{ao_at, row_at, suspect_at};
+ghost use Rattle.tcp_segment.specs.Views.{view_ao};
+ghost use Rattle.scope_why.specs.MacsViews.{suspect_view};
 ghost use Rattle.scope_why.specs.Finding.{IsWithin, numbered_of};
 ghost use Rattle.scope_why.specs.Views.{inquiry_of, sight_of};
 
 use crate::inquiry::Inquiry;
+use crate::lines::{push_mac_lines, push_passing_lines};
 use crate::sight::{NumberedRow, ao_at, row_at, suspect_at};
+use crate::suspect::{BothTables, Suspect};
 use crate::values::{push_row_taking, push_values};
 use ao_base::push_decimal;
 use std::alloc::{AllocError, Global};
-use tcp_options::AoOption;
+use tcp_segment::AoOption;
 use text_lines::push_newline;
-use why_macs::{BothTables, Suspect, push_mac_lines, push_passing_lines};
 
 fn push_length(
     out: &mut Vec<u8>,

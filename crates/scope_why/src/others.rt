@@ -3,9 +3,9 @@ ghost use Rattle.std.specs.Prelude.{◌≡◌, ◌++◌, ◌&&◌, IfOk, OnOk, S
 ghost use Rattle.std.specs.List.{list_any};
 ghost use Rattle.book_segments.specs.Segments.{Read, reading};
 ghost use Rattle.book_segments.specs.Sockets.{same_socket};
-ghost use Rattle.book_why_texts.specs.OtherIsns.{are_own, destination_isn_by, isns_seen_from, may_tell, other_isns};
-ghost use Rattle.book_why_texts.specs.OtherIsns.{same_isn_pair, told_at, told_by_reading, numbers_of_syn};
-ghost use Rattle.book_why_texts.specs.OtherIsns.{with_destination, with_isn_pair, with_isn_pairs};
+ghost use Rattle.book_why.specs.OtherIsns.{are_own, destination_isn_by, isns_seen_from, may_tell, other_isns};
+ghost use Rattle.book_why.specs.OtherIsns.{same_isn_pair, told_at, told_by_reading, numbers_of_syn};
+ghost use Rattle.book_why.specs.OtherIsns.{with_destination, with_isn_pair, with_isn_pairs};
 
 use crate::sight::isns_of_syn;
 use ao_base::is_same_socket;
@@ -146,7 +146,7 @@ fn push_told_at(
 
 /// The initial sequence numbers of other connections on the sockets of a segment: of those that are told each
 /// pair once, but for those of its own connection.
-#[tactic(auto, unfolding(book_why_texts::specs::OtherIsns::other_isns))]
+#[tactic(auto, unfolding(book_why::specs::OtherIsns::other_isns))]
 pub(crate) fn other_isns(
     alloc: Global,
     datagram: &Datagram<'_>,

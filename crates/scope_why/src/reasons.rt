@@ -1,10 +1,10 @@
 //! What decided what is said of a segment.
 ghost use Rattle.std.specs.Prelude.{◌≡◌, ◌++◌, ◌∷◌, OnOk, codes, decimal};
-ghost use Rattle.book_why_texts.specs.Inquiries.{if_found, lacking_lines, limit_line, no_handshake_line, node_line};
-ghost use Rattle.book_why_texts.specs.Inquiries.{options_line, passing_values, range_line, row_taking_line};
-ghost use Rattle.book_why_texts.specs.Inquiries.{values_lines};
-ghost use Rattle.book_why_texts.specs.Sights.{ao_at, number_at};
-ghost use Rattle.tcp_options.specs.Views.{view_ao};
+ghost use Rattle.book_why.specs.Inquiries.{if_found, lacking_lines, limit_line, no_handshake_line, node_line};
+ghost use Rattle.book_why.specs.Inquiries.{options_line, passing_values, range_line, row_taking_line};
+ghost use Rattle.book_why.specs.Inquiries.{values_lines};
+ghost use Rattle.book_why.specs.Sights.{ao_at, number_at};
+ghost use Rattle.tcp_segment.specs.Views.{view_ao};
 ghost use Rattle.scope_why.specs.Finding.{IsWithin, lines_of_said, lines_of_verdict};
 ghost use Rattle.scope_why.specs.Views.{inquiry_of, sight_of};
 
@@ -19,8 +19,7 @@ use capture_check::{CheckLine, pair_at};
 use cmd_show::push_options;
 use key_table::Table;
 use std::alloc::{AllocError, Global};
-use tcp_options::AoOption;
-use tcp_segment::Datagram;
+use tcp_segment::{AoOption, Datagram};
 use text_lines::{push_field, push_newline, push_text};
 
 /// The number at which a segment ends at the latest.

@@ -6,17 +6,17 @@ ghost use Rattle.book_lines.specs.Texts.{spaced};
 ghost use Rattle.book_scope_plan.specs.AdminNames.{admin_name};
 ghost use Rattle.book_scope_plan.specs.FindingTexts.{admin_text};
 ghost use Rattle.book_why.specs.ChangeTexts.{options_text};
-ghost use Rattle.book_why_texts.specs.Lacks.{lacks, lifetime_texts, row_and_lacks, row_shown, row_shown_line};
-ghost use Rattle.book_why_texts.specs.Lacks.{rows_and_lacks};
+ghost use Rattle.book_why.specs.Lacks.{lacks, lifetime_texts, row_and_lacks, row_shown, row_shown_line};
+ghost use Rattle.book_why.specs.Lacks.{rows_and_lacks};
 
 use crate::lacks::push_lacks;
+use crate::texts::push_options_text;
 use book_base::Pair;
 use key_table::{Lifetime, Row, Table};
 use plan_texts::{admin_name, push_admin};
 use scope_sessions::push_time;
 use std::alloc::AllocError;
 use text_lines::{push_field, push_newline, push_number, push_text};
-use why_macs::push_options_text;
 
 // The number of a row, its node, and what the document calls it.
 fn push_name(
@@ -68,7 +68,7 @@ fn push_lifetimes(out: &mut Vec<u8>, row: &Row) -> Result<(), AllocError>
     push_lifetime(out, row.accepting())
 }
 
-#[tactic(auto, unfolding(book_why_texts::specs::Lacks::row_shown))]
+#[tactic(auto, unfolding(book_why::specs::Lacks::row_shown))]
 fn push_row(
     out: &mut Vec<u8>,
     document: &toml::Table,

@@ -7,7 +7,7 @@ ghost use Rattle.capture_check.specs.declared.answer.CheckLine.TheVariants as li
 ghost use Rattle.capture_check.specs.Answers.{Says, answer_texts, checksum_texts, verdict_texts};
 
 use ao_base::push_decimal;
-use book_cmd_show::Checksum;
+use book_cmd_check::Checksum;
 use book_endpoint::{Passed, Refusal};
 use book_segments::DatagramFault;
 use capture_check::CheckLine;

@@ -1,14 +1,14 @@
 //! The line of a segment.
 ghost use Rattle.std.specs.Prelude.{◌≡◌, ◌++◌, ◌∷◌, ℕ, [], List, OnOk, codes, decimal};
-ghost use Rattle.book_cmd_show.specs.DatagramTexts.{number_texts};
+ghost use Rattle.book_cmd_check.specs.DatagramTexts.{number_texts};
 ghost use Rattle.book_lines.specs.Texts.{line_text, spaced};
 ghost use Rattle.book_scope_texts.specs.Addresses.{usual_address_text};
 ghost use Rattle.book_scope_texts.specs.Instants.{instant_text};
 ghost use Rattle.book_segments.specs.Options.{find_ao};
 ghost use Rattle.book_sessions.specs.OutcomeTexts.{passed_text};
-ghost use Rattle.book_why_texts.specs.Answers.{hex_or_hyphen, no_packet_line, no_segment_line, option_texts_of};
-ghost use Rattle.book_why_texts.specs.Answers.{segment_line};
-ghost use Rattle.tcp_options.specs.Views.{view_ao, view_found};
+ghost use Rattle.book_why.specs.Answers.{hex_or_hyphen, no_packet_line, no_segment_line, option_texts_of};
+ghost use Rattle.book_why.specs.Answers.{segment_line};
+ghost use Rattle.tcp_segment.specs.Views.{view_ao, view_found};
 
 use ao_base::{push_decimal, push_hex};
 use book_base::Socket;
@@ -16,8 +16,7 @@ use book_sessions::PassedOver;
 use cmd_show::push_numbers;
 use scope_sessions::{push_host, push_passed, push_time};
 use std::alloc::AllocError;
-use tcp_options::{AoFound, AoOption};
-use tcp_segment::Datagram;
+use tcp_segment::{AoFound, AoOption, Datagram};
 use text_lines::{push_field, push_newline, push_number, push_text};
 
 fn push_bytes(out: &mut Vec<u8>, bytes: &[u8]) -> Result<(), AllocError>

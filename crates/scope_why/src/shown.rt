@@ -7,7 +7,7 @@ ghost use Rattle.scope_why.specs.Fronts.{stored_as};
 
 use book_sessions::PassedOver;
 use capture_reader::FoundDatagram;
-use capture_stream::{CaptureReader, Skipped};
+use capture_walk::{CaptureReader, Skipped};
 use scope_lines::judged;
 
 /// How many nanoseconds a second has.

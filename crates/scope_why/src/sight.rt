@@ -3,20 +3,18 @@ ghost use Rattle.std.specs.Prelude.{◌≡◌, ◌≤◌, ◌^◌, IfSome, if◌
 ghost use Rattle.book_cmd_check.specs.Captures.{acknowledged_isn};
 ghost use Rattle.book_segments.specs.Options.{One, find_ao};
 ghost use Rattle.book_segments.specs.Segments.{ACK, has};
-ghost use Rattle.book_why_texts.specs.Sights.{ao_at, isns_at, isns_of_syn, known_at, number_at, row_at, suspect_at};
-ghost use Rattle.tcp_options.specs.Views.{view_ao};
-ghost use Rattle.why_macs.specs.Views.{suspect_view};
+ghost use Rattle.book_why.specs.Sights.{ao_at, isns_at, isns_of_syn, known_at, number_at, row_at, suspect_at};
+ghost use Rattle.tcp_segment.specs.Views.{view_ao};
+ghost use Rattle.scope_why.specs.MacsViews.{suspect_view};
 ghost use Rattle.scope_why.specs.Finding.{Finds, IsWithin, numbered_of};
 ghost use Rattle.scope_why.specs.Views.{sight_of};
 
 use crate::inquiry::Inquiry;
+use crate::suspect::Suspect;
 use book_why::IsnPair;
 use capture_check::{acknowledged_isn, pair_at};
 use key_table::{Accept, Row};
-use tcp_options::{AoFound, AoOption};
-use tcp_segment::{Datagram, Flag};
-use why_macs::Suspect;
-use wrap_seq::extend;
+use tcp_segment::{AoFound, AoOption, Datagram, Flag, extend};
 
 /// A row with its number in its table, from 1.
 #[derive(Clone, Copy)]

@@ -2,8 +2,8 @@
 ghost use Rattle.std.specs.Prelude.{◌≡◌, ◌++◌, ◌∷◌, [], OnOk, Some, codes, option_map};
 ghost use Rattle.toml.specs.View.{table_view};
 ghost use Rattle.book_lines.specs.Texts.{spaced};
-ghost use Rattle.book_why_texts.specs.Inquiries.{isns_line, number_line, number_or_hyphen, row_taking_line};
-ghost use Rattle.book_why_texts.specs.Inquiries.{values_lines};
+ghost use Rattle.book_why.specs.Inquiries.{isns_line, number_line, number_or_hyphen, row_taking_line};
+ghost use Rattle.book_why.specs.Inquiries.{values_lines};
 ghost use Rattle.scope_why.specs.Finding.{IsWithin};
 ghost use Rattle.scope_why.specs.Views.{inquiry_of, sight_of};
 

@@ -1,7 +1,7 @@
 //! The answer on a packet of a capture, written when the capture was read as far as that packet.
 ghost use Rattle.std.specs.Prelude.{◌≡◌, ℕ, List};
 ghost use Rattle.ao_base.specs.Outside.{Side};
-ghost use Rattle.key_file.specs.KeyFiles.{key_file_of};
+ghost use Rattle.scope_keys.specs.KeyFiles.{key_file_of};
 ghost use Rattle.scope_why.specs.Writing.{Writes, WritesAnswer, question_of};
 
 use crate::answer::Answered;
@@ -10,7 +10,7 @@ use crate::question::Question;
 use ao_base::{Failed, Sink, Source, write_all};
 use book_sessions::GivenIsns;
 use capture_walk::WalkHalt;
-use key_file::KeyFile;
+use scope_keys::KeyFile;
 use std::alloc::Global;
 
 /// Which packet is asked for, by its number from 1, and whether its traffic key is, which is a secret.
@@ -31,7 +31,7 @@ fn write_answer<O: Sink>(answered: &Answered, out: &mut O) -> Result<bool, WalkH
 }
 
 /// Writes why the check says what it says of the first packet of the number that is asked for in a capture:
-/// the lines that `book_why_texts` defines, judged by the tables of a key file as behind handshakes with the
+/// the lines that `book_why` defines, judged by the tables of a key file as behind handshakes with the
 /// given initial sequence numbers, and behind the packets in front of it; where no packet of the
 /// capture has the number, that. No packet after it is read, at most 16,842,752 bytes are taken past its part of the
 /// capture, and what follows it doesn't matter. Ok where the whole answer was written: whether the packet passes.

@@ -1,9 +1,9 @@
 //! Whether the checksum of a datagram is right.
 ghost use Rattle.std.specs.Prelude.{◌≡◌, ◌++◌, ◌∷◌, [], OnOk, codes};
 ghost use Rattle.book_lines.specs.Texts.{spaced};
-ghost use Rattle.book_cmd_show.specs.DatagramTexts.{checksum_in, checksum_text};
+ghost use Rattle.book_cmd_check.specs.DatagramTexts.{checksum_in, checksum_text};
 
-use book_cmd_show::Checksum;
+use book_cmd_check::Checksum;
 use std::alloc::AllocError;
 use tcp_segment::Datagram;
 use text_lines::push_text;

@@ -9,14 +9,14 @@ use Rattle.book_keys.specs.Rows.{Row}
 use Rattle.book_keys.specs.Coordination.{Sending}
 use Rattle.book_endpoint.specs.States.{EndState}
 use Rattle.book_endpoint.specs.Emissions.{Draft, Emits, sets, sealed, made_under}
-use Rattle.key_coordination.specs.declared.choice.Sending.{Sending as Told}
+use Rattle.ao_check.specs.declared.choice.Sending.{Sending as Told}
 use Rattle.tcp_segment.specs.declared.spelling.Head.{Head}
 use Rattle.tcp_segment.specs.Drafts.{DatagramMut, Drafted}
 use Rattle.tcp_segment.specs.Layout.{drafted, header_length, AreSized, IsFinished}
 use Rattle.ao_kdf.specs.Cache.{Cache}
 use Rattle.ao_kdf.specs.declared.way.Way.TheVariants.{Outbound}
 use Rattle.ao_check.specs.Bonds.{Bond, Counted}
-use Rattle.wrap_seq.specs.Counter.{number as value_of}
+use Rattle.tcp_segment.specs.Counter.{number as value_of}
 use Rattle.ao_check.specs.Signings.{IsToSign}
 use Rattle.ao_check.proofs.KeyLaws.{got}
 use Rattle.ao_check.proofs.SignedLaws.{to_sign}

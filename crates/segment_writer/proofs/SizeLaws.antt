@@ -11,7 +11,7 @@ use Rattle.book_segments.specs.Spelling.{finished}
 use Rattle.book_segments.proofs.SumLaws.{same_ip}
 use Rattle.book_macs.proofs.LengthLaws.{twelve_or_sixteen}
 use Rattle.book_keys.specs.Rows.{Row}
-use Rattle.key_coordination.specs.declared.choice.Sending.{Sending as Told}
+use Rattle.ao_check.specs.declared.choice.Sending.{Sending as Told}
 use Rattle.tcp_segment.specs.declared.spelling.Head.{Head}
 use Rattle.tcp_segment.specs.Drafts.{DatagramMut, Drafted}
 use Rattle.book_base.specs.Addresses.{IsOneFamily}

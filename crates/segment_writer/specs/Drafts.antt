@@ -7,9 +7,9 @@ use Rattle.book_keys.specs.Rows.{Row}
 use Rattle.book_keys.specs.Coordination as book
 use Rattle.book_endpoint.specs.States.{EndState, window}
 use Rattle.book_endpoint.specs.Emissions.{Draft, sets}
-use Rattle.key_coordination.specs.declared.choice.Sending.{Sending}
-use Rattle.key_coordination.specs.Sendings.{told}
-use Rattle.wrap_seq.specs.Counter.{number as value_of}
+use Rattle.ao_check.specs.declared.choice.Sending.{Sending}
+use Rattle.ao_check.specs.Sendings.{told}
+use Rattle.tcp_segment.specs.Counter.{number as value_of}
 use Rattle.ao_check.specs.Bonds.{Bond}
 use Rattle.segment_writer.specs.declared.outgoing.Outgoing.{Outgoing}
 use Rattle.segment_writer.specs.declared.outgoing.Piece.{Piece}

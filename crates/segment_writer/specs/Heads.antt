@@ -4,13 +4,13 @@ use Rattle.book_base.specs.declared.address.Address.{Address}
 use Rattle.book_base.specs.declared.address.Pair.{Pair}
 use Rattle.book_base.specs.Algorithms.{mac_length_of}
 use Rattle.book_segments.specs.Bytes.{ring}
-use Rattle.wrap_seq.specs.Counter.{number as value_of}
+use Rattle.tcp_segment.specs.Counter.{number as value_of}
 use Rattle.book_segments.specs.Segments.{SYN, RST, ACK}
 use Rattle.book_keys.specs.Rows.{Row}
 use Rattle.book_keys.specs.Coordination as book
 use Rattle.book_endpoint.specs.States.{EndState, own_mss}
 use Rattle.book_endpoint.specs.Emissions.{Draft, sets, told_window, ao_place}
-use Rattle.key_coordination.specs.declared.choice.Sending.{Sending}
+use Rattle.ao_check.specs.declared.choice.Sending.{Sending}
 use Rattle.tcp_segment.specs.declared.spelling.Head.{Head}
 use Rattle.tcp_segment.specs.Layout.{ip_size}
 use Rattle.segment_writer.specs.declared.outgoing.Outgoing.{Outgoing}

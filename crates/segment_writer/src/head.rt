@@ -2,14 +2,13 @@
 ghost use Rattle.std.specs.Prelude.{◌≡◌, ◌<◌, ◌%◌};
 ghost use Rattle.book_segments.specs.Bytes.{ring};
 ghost use Rattle.book_endpoint.specs.States.{own_mss};
-ghost use Rattle.wrap_seq.specs.Counter.{number as value_of};
+ghost use Rattle.tcp_segment.specs.Counter.{number as value_of};
 ghost use Rattle.segment_writer.specs.Heads.{head_of, mss_with, window_with, expected_with};
 
 use crate::outgoing::Outgoing;
+use ao_check::Sending;
 use book_base::{Address, Pair};
-use key_coordination::Sending;
-use tcp_segment::{Flag, Head};
-use wrap_seq::Counter;
+use tcp_segment::{Counter, Flag, Head};
 
 /// The own maximum segment size, by the family of the own address: 1,460 or 1,440, which with 40 or
 /// 60 bytes of headers make 1,500 (RFC 9293, section 3.7.1).

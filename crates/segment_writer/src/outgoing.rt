@@ -2,7 +2,7 @@
 
 use ao_kdf::Context;
 use stream_buffers::SendQueue;
-use wrap_seq::Counter;
+use tcp_segment::Counter;
 
 /// So many bytes of a send queue, from a place on; they stay in the queue.
 #[derive(Clone, Copy)]

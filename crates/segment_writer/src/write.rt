@@ -10,16 +10,15 @@ ghost use Rattle.book_macs.specs.Contexts.{bytes_of};
 ghost use Rattle.book_base.specs.Addresses.{IsOneFamily};
 ghost use Rattle.ao_kdf.specs.declared.way.Way.TheVariants.{Outbound};
 ghost use Rattle.ao_check.specs.Bonds.{Counted, Fits};
-ghost use Rattle.wrap_seq.specs.Counter.{number as value_of};
+ghost use Rattle.tcp_segment.specs.Counter.{number as value_of};
 ghost use Rattle.segment_writer.specs.Drafts.{IsKnown, IsOf, IsWritten};
 ghost use Rattle.segment_writer.specs.Heads.{size_of};
 
 use crate::head::head_of;
 use crate::outgoing::{Outgoing, Written};
 use ao_base::Steps;
-use ao_check::Association;
+use ao_check::{Association, Sending};
 use book_base::Pair;
-use key_coordination::Sending;
 use key_table::Table;
 use lent_bytes::Room;
 use std::sync::ledger::Ledger;

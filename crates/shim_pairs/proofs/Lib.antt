@@ -6,3 +6,4 @@ pub mod PutLaws
 pub mod RekeyLaws
 pub mod RoomLaws
 pub mod ShimLaws
+pub mod TouchLaws

@@ -2,3 +2,4 @@ pub mod Ages
 pub mod Counting
 pub mod Holdings
 pub mod Passing
+pub mod Touching

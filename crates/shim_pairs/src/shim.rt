@@ -8,12 +8,12 @@ ghost use Rattle.shim_pairs.specs.Passing.{Enters, IsUnsent, IsUntaken, Leaves, 
 use crate::answer::{PairUnsent, PairUntaken, Passed};
 use crate::copy::{MOST_BYTES, copy_datagram};
 use crate::counters::{Counters, arriving_counted, ignored_counted, leaving_counted, no_counters};
+use crate::notices::read_notice;
 use crate::pairs::Pairs;
 use crate::saved::{RestoreRefusal, Saved};
 use ao_base::Steps;
 use book_shim::{Unsent, Untaken};
 use key_table::Tables;
-use shim_icmp::read_notice;
 use std::alloc::{AllocError, Global};
 use std::marker::Model;
 use std::sync::ledger::Ledger;

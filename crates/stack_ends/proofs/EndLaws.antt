@@ -14,16 +14,16 @@ use Rattle.tcp_endpoint.specs.declared.endpoint.Endpoint.{Endpoint}
 use Rattle.tcp_endpoint.specs.Ends.{FitsEnd, Stands as EndStands}
 use Rattle.tcp_endpoint.specs.Arrivals.{Arrives}
 use Rattle.tcp_endpoint.specs.declared.arrival.Arrived.{Arrived}
-use Rattle.node_ends.specs.declared.answer.NodeArrival.{NodeArrival}
-use Rattle.node_ends.specs.declared.answer.NodeArrival.TheVariants as answers
-use Rattle.node_ends.specs.declared.answer.NodeRefusal.{NodeRefusal}
-use Rattle.node_ends.specs.declared.answer.NodeRefusal.TheVariants as refusals
-use Rattle.node_ends.specs.Arrivals.{Comes, ComesTo, HearsAt}
-use Rattle.node_ends.specs.Held.{Holding, end_at, ends, holds, refusal, Adds, Begins, IsRefused, Removes, Ticks}
-use Rattle.node_ends.specs.Loans.{written}
-use Rattle.node_ends.proofs.MapLaws.{written_finds, written_count}
-use Rattle.node_ends.specs.Stands.{StandsFor, StandsAt, HoldsAs}
-use Rattle.node_ends.proofs.HoldLaws.{put_holds, drop_holds, add_holds, tick_holds, held_alike}
+use Rattle.stack_ends.specs.declared.answer.NodeArrival.{NodeArrival}
+use Rattle.stack_ends.specs.declared.answer.NodeArrival.TheVariants as answers
+use Rattle.stack_ends.specs.declared.answer.NodeRefusal.{NodeRefusal}
+use Rattle.stack_ends.specs.declared.answer.NodeRefusal.TheVariants as refusals
+use Rattle.stack_ends.specs.EndsArrivals.{Comes, ComesTo, HearsAt}
+use Rattle.stack_ends.specs.Held.{Holding, end_at, ends, holds, refusal, Adds, Begins, IsRefused, Removes, Ticks}
+use Rattle.stack_ends.specs.Loans.{written}
+use Rattle.stack_ends.proofs.MapLaws.{written_finds, written_count}
+use Rattle.stack_ends.specs.EndsStands.{StandsFor, StandsAt, HoldsAs}
+use Rattle.stack_ends.proofs.HoldLaws.{put_holds, drop_holds, add_holds, tick_holds, held_alike}
 use Rattle.stack_ends.specs.declared.ends.Ends.{Ends}
 use Rattle.stack_ends.specs.Calls.{Asking, CallsAt}
 use Rattle.stack_ends.specs.Arrivals.{Meets, MeetsPair, MeetsRead}

@@ -9,12 +9,12 @@ use Rattle.book_cmd_node.specs.NodeRuns.{same_pair}
 use Rattle.book_segments.specs.Segments.{pair_reached}
 use Rattle.tcp_endpoint.specs.declared.endpoint.Endpoint.{Endpoint}
 use Rattle.tcp_endpoint.specs.Ends.{FitsEnd}
-use Rattle.node_ends.specs.declared.answer.NodeArrival.{NodeArrival}
-use Rattle.node_ends.specs.declared.answer.NodeRefusal.{NodeRefusal}
-use Rattle.node_ends.specs.Arrivals.{Comes, ComesTo}
-use Rattle.node_ends.specs.Held.{Holding, end_at, Adds, Begins, FitsAll, Removes, Ticks, TicksAt}
-use Rattle.node_ends.specs.Loans.{written}
-use Rattle.node_ends.proofs.MapLaws.{written_finds}
+use Rattle.stack_ends.specs.declared.answer.NodeArrival.{NodeArrival}
+use Rattle.stack_ends.specs.declared.answer.NodeRefusal.{NodeRefusal}
+use Rattle.stack_ends.specs.EndsArrivals.{Comes, ComesTo}
+use Rattle.stack_ends.specs.Held.{Holding, end_at, Adds, Begins, FitsAll, Removes, Ticks, TicksAt}
+use Rattle.stack_ends.specs.Loans.{written}
+use Rattle.stack_ends.proofs.MapLaws.{written_finds}
 
 pub fits_put : (rows : List Row) (before after : Holding) (p : Pair) (f : Endpoint) → FitsAll rows before
     → ((q : Pair) → end_at after q ≡ (if same_pair p q then Some f else end_at before q)) → FitsEnd rows f → FitsAll rows after

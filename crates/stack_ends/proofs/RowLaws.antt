@@ -10,8 +10,8 @@ use Rattle.book_endpoint.specs.States.{EndState}
 use Rattle.book_cmd_node.specs.NodeRuns.{NodeState, held_end}
 use Rattle.tcp_endpoint.specs.declared.endpoint.Endpoint.{Endpoint}
 use Rattle.tcp_endpoint.specs.Ends.{FitsEnd}
-use Rattle.node_ends.specs.Held.{Holding, FitsAll, end_at}
-use Rattle.node_ends.specs.Stands.{StandsAt}
+use Rattle.stack_ends.specs.Held.{Holding, FitsAll, end_at}
+use Rattle.stack_ends.specs.EndsStands.{StandsAt}
 use Rattle.stack_ends.specs.declared.ends.Ends.{Ends}
 use Rattle.stack_ends.specs.Rows.{RowAdded, RowWithdrawn}
 use Rattle.stack_ends.specs.Stands.{Stands}

@@ -9,8 +9,8 @@ use Rattle.book_endpoint.specs.Verdicts.{Finding, Judgement, judge}
 use Rattle.book_endpoint.specs.declared.refusal.Refusal.{Refusal}
 use Rattle.book_cmd_node.specs.NodeRuns.{NodeState, DatagramAnswered, after_call, called, held_end}
 use Rattle.book_segments.specs.Segments.{pair_reached}
-use Rattle.node_ends.specs.declared.answer.NodeArrival.{NodeArrival}
-use Rattle.node_ends.specs.declared.answer.NodeArrival.TheVariants as answers
+use Rattle.stack_ends.specs.declared.answer.NodeArrival.{NodeArrival}
+use Rattle.stack_ends.specs.declared.answer.NodeArrival.TheVariants as answers
 use Rattle.tcp_endpoint.specs.Arrivals.{TellsOption, TellsPassed, passed_of}
 use Rattle.tcp_endpoint.specs.declared.arrival.Arrived.{Arrived}
 use Rattle.stack_ends.specs.declared.ends.Ends.{Ends}

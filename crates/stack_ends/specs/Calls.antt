@@ -9,7 +9,7 @@ use Rattle.tcp_endpoint.specs.declared.send.GiveAnswer.{GiveAnswer}
 use Rattle.tcp_endpoint.specs.declared.send.GiveAnswer.TheVariants as given
 use Rattle.book_stack.specs.Turns.{change_by}
 use Rattle.book_stack.specs.Watches.{awaits}
-use Rattle.node_ends.specs.Calls.{act_on}
+use Rattle.stack_ends.specs.EndsCalls.{act_on}
 use Rattle.stack_ends.specs.declared.calls.Taken.{Taken}
 use Rattle.stack_ends.specs.declared.ends.Ends.{Ends}
 use Rattle.stack_ends.specs.declared.send.Spoken.{Spoken}

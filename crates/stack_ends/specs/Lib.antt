@@ -4,3 +4,9 @@ pub mod Rows
 pub mod Said
 pub mod Stands
 pub mod Costs
+pub mod EndsArrivals
+pub mod Held
+pub mod Loans
+pub mod EndsCalls
+pub mod EndsStands
+pub mod EndsCosts

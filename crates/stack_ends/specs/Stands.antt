@@ -4,9 +4,9 @@ use Rattle.book_base.specs.declared.address.Pair.{Pair}
 use Rattle.book_keys.specs.Rows.{Row}
 use Rattle.book_endpoint.specs.States.{EndState}
 use Rattle.book_cmd_node.specs.NodeRuns.{Held, NodeState, held_end, without_end}
-use Rattle.node_ends.specs.declared.answer.NodeRefusal.{NodeRefusal}
-use Rattle.node_ends.specs.declared.answer.NodeRefusal.TheVariants as refusals
-use Rattle.node_ends.specs.Stands.{HoldsAs}
+use Rattle.stack_ends.specs.declared.answer.NodeRefusal.{NodeRefusal}
+use Rattle.stack_ends.specs.declared.answer.NodeRefusal.TheVariants as refusals
+use Rattle.stack_ends.specs.EndsStands.{HoldsAs}
 use Rattle.stack_ends.specs.declared.ends.Ends.{Ends}
 
 -- the ends stand for the node under these rows, which are their table's; no pair is held twice (own)

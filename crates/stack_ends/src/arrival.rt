@@ -3,15 +3,15 @@ ghost use Rattle.std.specs.Prelude.{◌≡◌, ◌≤◌, ◌+◌, List, true};
 ghost use Rattle.book_keys.specs.Rows.{Row};
 ghost use Rattle.book_segments.specs.Segments.{Read, SYN, has};
 ghost use Rattle.book_cmd_node.specs.NodeRuns.{NodeState};
-ghost use Rattle.node_ends.specs.Costs.{CostsHeard};
+ghost use Rattle.stack_ends.specs.EndsCosts.{CostsHeard};
 ghost use Rattle.stack_ends.specs.Arrivals.{IsJudged, Meets, syn_judged};
 ghost use Rattle.stack_ends.specs.Stands.{Stands, most_of};
 
+use crate::answer::NodeArrival;
 use crate::ends::Ends;
 use ao_base::Steps;
 use ao_check::{Refusal, check_syn};
 use book_base::Pair;
-use node_ends::NodeArrival;
 use std::sync::ledger::Ledger;
 use tcp_segment::Datagram;
 

@@ -2,15 +2,19 @@
 //! plain node.
 #![tactic(auto)]
 
+mod answer;
 mod arrival;
 mod calls;
 mod ends;
+mod node;
 mod open;
 mod rows;
 mod send;
 mod start;
 mod status;
 
+pub use answer::{NodeArrival, NodeRefusal};
 pub use calls::Taken;
 pub use ends::Ends;
+pub use node::Node;
 pub use send::{Says, Spoken};

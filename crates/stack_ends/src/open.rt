@@ -7,10 +7,11 @@ ghost use Rattle.book_cmd_node.specs.NodeRuns.{NodeState, most_ends, no_ends, en
 ghost use Rattle.book_base.specs.Addresses.{IsOneFamily};
 ghost use Rattle.stack_ends.specs.Stands.{Stands, Begun, Removed, most_of};
 
+use crate::answer::NodeRefusal;
 use crate::ends::Ends;
+use crate::node::Node;
 use book_base::Pair;
 use key_table::Table;
-use node_ends::{Node, NodeRefusal};
 use std::alloc::{AllocError, Global};
 
 impl Ends {

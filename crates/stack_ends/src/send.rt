@@ -4,7 +4,7 @@ ghost use Rattle.book_keys.specs.Rows.{Row};
 ghost use Rattle.book_endpoint.specs.States.{EndState, gives};
 ghost use Rattle.book_endpoint.specs.Emissions.{unsent};
 ghost use Rattle.book_cmd_node.specs.declared.node.Act.TheVariants as act;
-ghost use Rattle.node_ends.specs.Calls.{act_on};
+ghost use Rattle.stack_ends.specs.EndsCalls.{act_on};
 ghost use Rattle.tcp_endpoint.specs.Ends.{Stands, FitsEnd, pair_at_end};
 ghost use Rattle.tcp_endpoint.specs.Numbers.{expected_in};
 ghost use Rattle.book_stack.specs.Watches.{awaits, end_front};

@@ -6,9 +6,9 @@ ghost use Rattle.book_cmd_node.specs.NodeRuns.{NodeState};
 ghost use Rattle.book_base.specs.Addresses.{IsOneFamily};
 ghost use Rattle.stack_ends.specs.Stands.{Stands, Begun, most_of};
 
+use crate::answer::NodeRefusal;
 use crate::ends::Ends;
 use book_base::Pair;
-use node_ends::NodeRefusal;
 use std::alloc::Global;
 
 impl Ends {

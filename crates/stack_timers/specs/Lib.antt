@@ -3,3 +3,5 @@ pub mod Loans
 pub mod Places
 pub mod Timers
 pub mod Watches
+pub mod Bounds
+pub mod Millis

@@ -4,10 +4,12 @@
 
 mod alarms;
 mod line;
+mod rto;
 mod watch;
 mod watches;
 
 pub use alarms::Alarms;
 pub use line::Line;
+pub use rto::Rto;
 pub use watch::{Watch, is_heard, moves_on};
 pub use watches::Watches;

@@ -3,9 +3,9 @@ ghost use Rattle.std.specs.Prelude.{◌≡◌, ◌≤◌};
 ghost use Rattle.book_stack.specs.Watches as book;
 ghost use Rattle.stack_timers.specs.Watches.{latest, seen};
 
+use crate::rto::Rto;
 use book_endpoint::{Arrival, Phase};
 use book_stack::{Change, Front, Timed};
-use rto_timer::Rto;
 
 /// The most milliseconds that a sample counts for, a day.
 const LONGEST: u64 = 86_400_000;

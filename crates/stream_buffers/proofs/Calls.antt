@@ -4,8 +4,8 @@ use Rattle.std.specs.Prelude.{nat_le, nat_lt, ◌&&◌, ◌||◌, is_some, IsSom
 use Rattle.std.proofs.lemmas.Bool.{le-leb, lt-leb, cases_lt, cond-true, cond-false, or_right, or_left, false≢true}
 use Rattle.std.proofs.lemmas.Bool.Decides.{nat_tests}
 use Rattle.std.proofs.lemmas.List.{set_at, drop_more}
-use Rattle.slot_list.specs.declared.slot.Slot.{Slot}
-use Rattle.slot_list.specs.Pool.{Pool}
+use Rattle.stream_buffers.specs.declared.slot.Slot.{Slot}
+use Rattle.stream_buffers.specs.Pool.{Pool}
 use Rattle.book_segments.specs.Bytes.{ring}
 use Rattle.stream_buffers.specs.declared.run.Run.{Run}
 use Rattle.stream_buffers.specs.declared.run.Span.{Span}

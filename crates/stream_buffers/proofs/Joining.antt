@@ -1,7 +1,7 @@
 -- A piece joined to the runs that it touches.
 use Rattle.std.proofs.Common.{◌≡◌, ℕ, ◌+◌, ◌-◌, ◌^◌, ◌<◌, ◌≤◌, max, List, ◌∷◌, ◌++◌, length, refl, ◌∙◌, ap, arith}
-use Rattle.slot_list.specs.declared.slot.Slot.{Slot}
-use Rattle.slot_list.specs.Pool.{At, Pool, pool}
+use Rattle.stream_buffers.specs.declared.slot.Slot.{Slot}
+use Rattle.stream_buffers.specs.Pool.{At, Pool, pool}
 use Rattle.stream_buffers.specs.declared.run.Run.{Run}
 use Rattle.stream_buffers.specs.declared.run.Span.{Span}
 use Rattle.stream_buffers.specs.Spans.{run_of, spans_of}

@@ -5,7 +5,7 @@ use Rattle.std.proofs.lemmas.Bool.{le-leb, lt-leb, cases_Bool, cases_lt, cond-tr
 use Rattle.std.proofs.lemmas.Bool.Decides.{nat_tests}
 use Rattle.std.proofs.lemmas.List.{get_or-take, get_or-drop, get_or_past}
 use Rattle.std.proofs.lemmas.Option.{slice_get-get_or, slice_get_past}
-use Rattle.slot_list.specs.Pool.{Pool}
+use Rattle.stream_buffers.specs.Pool.{Pool}
 use Rattle.stream_buffers.specs.declared.run.Run.{Run}
 use Rattle.stream_buffers.specs.declared.run.Span.{Span}
 use Rattle.book_segments.specs.Received.{keep, first_known, runs}

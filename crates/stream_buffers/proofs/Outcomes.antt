@@ -3,8 +3,8 @@ use Rattle.std.proofs.Common.{◌≡◌, ℕ, ◌+◌, ◌<◌, ◌≤◌, min, 
 use Rattle.std.specs.Prelude.{nat_le, nat_lt, ◌&&◌, ◌||◌}
 use Rattle.std.proofs.lemmas.Bool.{cond-false}
 use Rattle.std.proofs.lemmas.Bool.Decides.{nat_tests}
-use Rattle.slot_list.specs.declared.slot.Slot.{Slot}
-use Rattle.slot_list.specs.Pool.{Pool, pool}
+use Rattle.stream_buffers.specs.declared.slot.Slot.{Slot}
+use Rattle.stream_buffers.specs.Pool.{Pool, pool}
 use Rattle.stream_buffers.specs.declared.run.Run.{Run}
 use Rattle.stream_buffers.specs.declared.run.Span.{Span}
 use Rattle.book_segments.specs.Received.{most_runs, first_known}

@@ -1,8 +1,8 @@
 -- The ways through the keeping of a piece.
 use Rattle.std.proofs.Common.{◌≡◌, ℕ, ◌+◌, ◌-◌, ◌^◌, ◌<◌, ◌≤◌, min, max, List, ◌∷◌, ◌++◌, length, take, drop, Option, sym, ◌∙◌, ap, subst, arith, length-append, refl, inl, inr}
 use Rattle.std.proofs.lemmas.Bool.{cases_lt}
-use Rattle.slot_list.specs.declared.slot.Slot.{Slot}
-use Rattle.slot_list.specs.Pool.{Pool, pool, At, IsPool, last_slot}
+use Rattle.stream_buffers.specs.declared.slot.Slot.{Slot}
+use Rattle.stream_buffers.specs.Pool.{Pool, pool, At, IsPool, last_slot}
 use Rattle.book_segments.specs.Received.{most_runs, below_limit}
 use Rattle.stream_buffers.specs.declared.run.Run.{Run}
 use Rattle.stream_buffers.specs.declared.run.Span.{Span}

@@ -1,7 +1,7 @@
 -- What a contract sees of a reassembly: the bytes that are kept, by position.
 use Rattle.std.specs.Prelude.{◌≡◌, ℕ, ◌+◌, ◌-◌, ◌^◌, ◌<◌, ◌≤◌, ◌%◌, nat_le, false, List, [], ◌∷◌, Option, None, slice_index_or, IsSome, refl, if◌then◌else◌}
 use Rattle.std.specs.Coded.{Coded, code_by, coded×, coded_ℕ, coded_list, coded_option}
-use Rattle.slot_list.specs.declared.slot.Slot.{Slot}
+use Rattle.stream_buffers.specs.declared.slot.Slot.{Slot}
 use Rattle.book_segments.specs.Bytes.{ring}
 use Rattle.book_segments.specs.Received.{keep, first_missing, runs, below_limit}
 use Rattle.stream_buffers.specs.declared.run.Run.{Run}

@@ -1,3 +1,5 @@
 pub mod Kept
 pub mod Spans
 pub mod Walks
+pub mod Pool
+pub mod Links

@@ -7,9 +7,9 @@ ghost use Rattle.stream_buffers.specs.Kept.{ready_count, runs_then, window};
 
 use crate::buffer::{BUFFER_LENGTH, write};
 use crate::run::{Run, Span};
+use crate::slots::Slots;
 use crate::walk::{Place, find, join};
 use ao_base::Steps;
-use slot_list::Slots;
 use std::alloc::{AllocError, Global};
 use std::marker::Model;
 use std::sync::ledger::Ledger;

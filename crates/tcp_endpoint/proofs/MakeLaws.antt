@@ -10,9 +10,9 @@ use Rattle.book_base.specs.Algorithms.{mac_length_of}
 use Rattle.book_segments.specs.Segments.{SYN, ACK}
 use Rattle.book_keys.specs.Rows.{Row}
 use Rattle.book_keys.specs.Coordination as keys
-use Rattle.key_coordination.specs.declared.choice.Sending.{Sending}
-use Rattle.key_coordination.specs.Sendings.{told}
-use Rattle.key_coordination.proofs.ChoosingLaws.{choose_in}
+use Rattle.ao_check.specs.declared.choice.Sending.{Sending}
+use Rattle.ao_check.specs.Sendings.{told}
+use Rattle.ao_check.proofs.ChoosingLaws.{choose_in}
 use Rattle.ao_check.specs.Bonds.{Bond}
 use Rattle.ao_check.proofs.KeyLaws.{got}
 use Rattle.tcp_segment.specs.Layout.{ip_size}

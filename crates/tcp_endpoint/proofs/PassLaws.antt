@@ -4,8 +4,8 @@ use Rattle.std.specs.Prelude.{if◌then◌else◌, is_some}
 use Rattle.book_base.specs.declared.address.Pair.{Pair}
 use Rattle.book_segments.specs.Options.{AoFound, One, find_ao}
 use Rattle.book_segments.specs.Segments.{Segment, Read, good}
-use Rattle.tcp_options.specs.Views.{view_ao}
-use Rattle.tcp_options.specs.declared.ao.AoOption.{AoOption}
+use Rattle.tcp_segment.specs.Views.{view_ao}
+use Rattle.tcp_segment.specs.declared.ao.AoOption.{AoOption}
 use Rattle.book_keys.specs.Rows.{Row}
 use Rattle.book_endpoint.specs.States as states
 use Rattle.book_endpoint.specs.Verdicts as v

@@ -14,7 +14,7 @@ use Rattle.ao_kdf.specs.declared.way.Way.TheVariants.{Inbound}
 use Rattle.ao_check.specs.Bonds.{Counted}
 use Rattle.ao_check.specs.declared.passing.Passing.{Passing}
 use Rattle.ao_check.specs.Verdicts.{Names, is_judged, judging}
-use Rattle.tcp_options.specs.Views.{view_ao}
+use Rattle.tcp_segment.specs.Views.{view_ao}
 use Rattle.tcp_endpoint.specs.declared.arrival.Arrived.{Arrived}
 use Rattle.tcp_endpoint.specs.declared.endpoint.Endpoint.{Endpoint}
 use Rattle.tcp_endpoint.specs.Ends.{Stands}

@@ -2,7 +2,7 @@
 use Rattle.std.specs.Prelude.{◌≡◌, ℕ, true, List, length, Some, ⊤}
 use Rattle.book_segments.specs.Segments.{SYN}
 use Rattle.book_macs.specs.Contexts.{bytes_of}
-use Rattle.key_coordination.specs.Sendings.{told}
+use Rattle.ao_check.specs.Sendings.{told}
 use Rattle.book_endpoint.specs.States.{EndState}
 use Rattle.book_endpoint.specs.Emissions as book
 use Rattle.ao_kdf.specs.declared.way.Way.TheVariants.{Outbound}

@@ -1,7 +1,7 @@
 -- The numbers that an end keeps, as those of a state.
 use Rattle.std.specs.Prelude.{◌≡◌, ℕ, Option, Some, None, is_some}
-use Rattle.wrap_seq.specs.declared.counter.Counter.{Counter}
-use Rattle.wrap_seq.specs.Counter.{number}
+use Rattle.tcp_segment.specs.declared.counter.Counter.{Counter}
+use Rattle.tcp_segment.specs.Counter.{number}
 use Rattle.book_endpoint.specs.States.{EndState}
 use Rattle.tcp_endpoint.specs.declared.sequence.SequenceState.{SequenceState}
 use Rattle.tcp_endpoint.specs.declared.sequence.Received.{Received}

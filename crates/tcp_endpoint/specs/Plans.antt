@@ -1,6 +1,6 @@
 -- A plan as the draft of a segment.
 use Rattle.std.specs.Prelude.{◌≡◌, ℕ, ◌+◌, ◌-◌, ◌<◌, ◌≤◌, min, true, List, take, drop, Option, Some, None, is_some, ⊤}
-use Rattle.wrap_seq.specs.Counter.{number}
+use Rattle.tcp_segment.specs.Counter.{number}
 use Rattle.book_segments.specs.Segments.{FIN, SYN, RST, PSH, ACK}
 use Rattle.book_endpoint.specs.States.{EndState}
 use Rattle.book_endpoint.specs.Emissions as book

@@ -1,6 +1,6 @@
 //! What an acknowledgement does to an end.
 ghost use Rattle.std.specs.Prelude.{◌≡◌, ◌<◌, ◌==◌, ◌&&◌, ◌||◌, nat_le, nat_lt, true, false, is_some};
-ghost use Rattle.wrap_seq.specs.Counter.{number};
+ghost use Rattle.tcp_segment.specs.Counter.{number};
 ghost use Rattle.book_endpoint.specs.States.{EndState};
 ghost use Rattle.book_endpoint.specs.Hearing.{above, acked, acked_fin, windowed};
 ghost use Rattle.tcp_endpoint.specs.Halves.{waits};
@@ -9,8 +9,7 @@ ghost use Rattle.tcp_endpoint.specs.Ends.{Stands};
 use crate::endpoint::Endpoint;
 use crate::sequence::Received;
 use book_endpoint::Phase;
-use tcp_segment::Datagram;
-use wrap_seq::Counter;
+use tcp_segment::{Counter, Datagram};
 
 /// Whether a segment tells a window that isn't older than the last one (RFC 9293, section
 /// 3.10.7.4). The numbers are compared by value: the last window may lie far behind.

@@ -7,7 +7,7 @@ ghost use Rattle.tcp_endpoint.specs.Plans.{draft_of, IsCarried, IsCounted, IsWit
 use crate::endpoint::Endpoint;
 use crate::plans::Plan;
 use book_endpoint::Phase;
-use wrap_seq::Counter;
+use tcp_segment::Counter;
 
 impl Endpoint {
     /// A planned segment with so many bytes of payload is made.

@@ -1,7 +1,7 @@
 //! What an end answers where it may make a segment.
 
+use ao_check::Sending;
 use ao_kdf::Context;
-use key_coordination::Sending;
 
 /// A segment that was made.
 #[derive(Clone, Copy, Debug, PartialEq, Eq)]

@@ -1,6 +1,6 @@
 //! One end of a connection.
 ghost use Rattle.std.specs.Prelude.{is_some, length};
-ghost use Rattle.wrap_seq.specs.Counter.{number};
+ghost use Rattle.tcp_segment.specs.Counter.{number};
 ghost use Rattle.tcp_endpoint.specs.Halves.{Bound, Owes, Sends, Receives};
 ghost use Rattle.tcp_endpoint.specs.Numbers.{expected_in, fin_in};
 

@@ -16,8 +16,7 @@ use crate::sequence::Received;
 use book_base::Pair;
 use book_endpoint::{Arrival, Phase};
 use key_table::Table;
-use tcp_segment::{Datagram, Flag};
-use wrap_seq::Counter;
+use tcp_segment::{Counter, Datagram, Flag};
 
 /// The least maximum segment size that counts (own).
 const LEAST_MSS: u16 = 88;

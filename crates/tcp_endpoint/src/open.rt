@@ -15,7 +15,7 @@ use key_table::Table;
 use segment_writer::own_mss;
 use std::alloc::{AllocError, Global};
 use stream_buffers::{Reassembly, SendQueue};
-use wrap_seq::Counter;
+use tcp_segment::Counter;
 
 /// For how many rows keys are kept: as many as a table has at most.
 const ROWS: u8 = ROW_LIMIT as u8;

@@ -4,7 +4,7 @@ ghost use Rattle.book_base.specs.Algorithms.{mac_length_of};
 ghost use Rattle.book_segments.specs.Segments.{SYN as Syn};
 ghost use Rattle.book_endpoint.specs.States.{EndState, own_mss};
 ghost use Rattle.book_endpoint.specs.Emissions.{sets};
-ghost use Rattle.wrap_seq.specs.Counter.{number};
+ghost use Rattle.tcp_segment.specs.Counter.{number};
 ghost use Rattle.tcp_endpoint.specs.Ends.{Stands};
 ghost use Rattle.tcp_endpoint.specs.Plans.{draft_of, flags_of, IsCarried, IsCounted, IsOutlineOf, IsWithin};
 
@@ -13,9 +13,7 @@ use crate::plans::Plan;
 use crate::sequence::SequenceState;
 use book_base::Algorithm;
 use segment_writer::own_mss;
-use tcp_options::AO_HEAD;
-use tcp_segment::Flag;
-use wrap_seq::Counter;
+use tcp_segment::{AO_HEAD, Counter, Flag};
 
 /// What a planned segment is made of: its number, and which bytes of the queue it carries.
 #[derive(Clone, Copy)]

@@ -2,7 +2,7 @@
 ghost use Rattle.std.specs.Prelude.{◌≡◌, ◌-◌, ◌+◌, ◌≤◌, ◌%◌, length, Some, None, slice_get, if◌then◌else◌};
 ghost use Rattle.book_segments.specs.Bytes.{ring};
 ghost use Rattle.book_keys.specs.Coordination.{Sending as Chosen};
-ghost use Rattle.key_coordination.specs.Sendings.{told};
+ghost use Rattle.ao_check.specs.Sendings.{told};
 ghost use Rattle.book_endpoint.specs.States.{EndState};
 ghost use Rattle.book_endpoint.specs.Emissions as book;
 ghost use Rattle.tcp_endpoint.specs.Numbers.{expected_in};
@@ -16,7 +16,7 @@ use crate::outlines::flags_of;
 use crate::plans::Plan;
 use crate::sequence::Received;
 use ao_base::Steps;
-use key_coordination::Sending;
+use ao_check::Sending;
 use key_table::Table;
 use segment_writer::{Outgoing, Piece, Written, write_segment};
 use std::sync::ledger::Ledger;

@@ -1,6 +1,6 @@
 //! Which segment an end makes next, before the row to send with is chosen.
 ghost use Rattle.std.specs.Prelude.{◌≡◌, ◌+◌, ◌-◌, ◌==◌, ◌&&◌, ◌||◌, nat_lt, ℕ, IfSome};
-ghost use Rattle.wrap_seq.specs.Counter.{number};
+ghost use Rattle.tcp_segment.specs.Counter.{number};
 ghost use Rattle.book_endpoint.specs.States.{EndState};
 ghost use Rattle.book_endpoint.specs.Emissions as book;
 ghost use Rattle.endpoint_steps.specs.Drafting as steps;

@@ -1,7 +1,7 @@
 //! A segment that passed the check.
 ghost use Rattle.std.specs.Prelude.{◌≡◌, ◌+◌, ◌-◌, ◌≤◌, ◌<◌, ◌^◌, ◌==◌, ◌&&◌, ◌||◌, not, nat_le};
 ghost use Rattle.std.specs.Prelude.{nat_lt, ℕ, List, Option, Some, None, true, false, is_some, length, if◌then◌else◌};
-ghost use Rattle.wrap_seq.specs.Counter.{number as value_of};
+ghost use Rattle.tcp_segment.specs.Counter.{number as value_of};
 ghost use Rattle.book_segments.specs.Meant.{meant};
 ghost use Rattle.book_segments.specs.Segments.{has, FIN, SYN};
 ghost use Rattle.book_keys.specs.Rows.{Row};
@@ -23,8 +23,7 @@ use ao_base::Steps;
 use book_endpoint::{Arrival, Phase};
 use key_table::Table;
 use std::sync::ledger::Ledger;
-use tcp_segment::{Datagram, Flag};
-use wrap_seq::{Counter, ahead};
+use tcp_segment::{Counter, Datagram, Flag, ahead};
 
 /// Whether a segment carries payload or a FIN.
 fn carries(datagram: &Datagram<'_>) -> bool

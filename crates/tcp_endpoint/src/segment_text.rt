@@ -1,7 +1,7 @@
 //! Payload and FIN of an acceptable segment.
 ghost use Rattle.std.specs.Prelude.{◌≡◌, ◌+◌, ◌-◌, ◌≤◌, ◌<◌, ◌^◌, ◌==◌, ◌&&◌, ◌||◌, not};
 ghost use Rattle.std.specs.Prelude.{nat_le, nat_lt, ℕ, Option, Some, None, true, false, is_some, length, if◌then◌else◌};
-ghost use Rattle.wrap_seq.specs.Counter.{number};
+ghost use Rattle.tcp_segment.specs.Counter.{number};
 ghost use Rattle.book_segments.specs.Segments.{has, FIN};
 ghost use Rattle.book_endpoint.specs.States.{EndState, hears};
 ghost use Rattle.book_endpoint.specs.Hearing as hearing;
@@ -16,8 +16,7 @@ use crate::sequence::Received;
 use ao_base::Steps;
 use book_endpoint::{Arrival, Phase};
 use std::sync::ledger::Ledger;
-use tcp_segment::{Datagram, Flag};
-use wrap_seq::Counter;
+use tcp_segment::{Counter, Datagram, Flag};
 
 /// How long TIME-WAIT lasts, in seconds (RFC 9293, section 3.4.2).
 const TIME_WAIT_SECONDS: u64 = 240;

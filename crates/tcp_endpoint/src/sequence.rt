@@ -1,5 +1,5 @@
 //! The numbers of one end.
-use wrap_seq::Counter;
+use tcp_segment::Counter;
 
 /// The numbers that an end keeps (RFC 9293, section 3.3.1). Each is an integer below 2^64; its
 /// counter has the sequence number of the wire and the extension.

@@ -1,12 +1,11 @@
 //! Whether a segment is in the window.
 ghost use Rattle.std.specs.Prelude.{◌≡◌, ◌+◌, ◌-◌, ◌≤◌, ◌<◌, ◌^◌, ◌==◌, ◌&&◌, ◌||◌, ℕ, Some, true, false};
-ghost use Rattle.wrap_seq.specs.Counter.{number as value_of};
+ghost use Rattle.tcp_segment.specs.Counter.{number as value_of};
 ghost use Rattle.book_segments.specs.Meant.{meant};
 ghost use Rattle.book_segments.specs.Segments.{has, SYN, segment_length};
 ghost use Rattle.book_endpoint.specs.Hearing as hearing;
 
-use tcp_segment::{Datagram, Flag};
-use wrap_seq::{Counter, in_window};
+use tcp_segment::{Counter, Datagram, Flag, in_window};
 
 /// Whether a number is from `low` to below `high`.
 fn is_within(number: u64, low: u64, high: u64) -> bool

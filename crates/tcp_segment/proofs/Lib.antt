@@ -5,3 +5,5 @@ pub mod ReadLaws
 pub mod SameDraft
 pub mod SetLaws
 pub mod WriteLaws
+pub mod KindLaws
+pub mod Differences

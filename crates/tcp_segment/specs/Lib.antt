@@ -6,3 +6,6 @@ pub mod Places
 pub mod Sums
 pub mod Layout
 pub mod Written
+pub mod Views
+pub mod Counter
+pub mod Ring

@@ -11,11 +11,11 @@ ghost use Rattle.tcp_segment.specs.Places.{IsRead};
 use crate::faults::{Places, places_in};
 use crate::flags::Flag;
 use crate::headers::{TCP_HEADER, TCP_PROTOCOL, is_ipv4};
+use crate::options::{Options, options_over};
 use crate::sums::{address_sum, four, two, words_modulo};
 use book_base::{Address, Socket};
 use book_segments::DatagramFault;
 use std::marker::Model;
-use tcp_options::{Options, options_over};
 
 /// A datagram in the caller's bytes; seen as its fields.
 #[derive(Drop)]

@@ -7,9 +7,9 @@ ghost use Rattle.tcp_segment.specs.Places.{PlacedBy, Placed};
 use crate::headers::{
     DONT_FRAGMENT_BIT, IPV4, IPV4_HEADER, IPV6, IPV6_HEADER, TCP_HEADER, TCP_PROTOCOL,
 };
+use crate::options::read_options;
 use crate::sums::{is_right, two};
 use book_segments::DatagramFault;
-use tcp_options::read_options;
 
 /// Where the TCP header and the payload begin, and the datagram ends.
 #[derive(Clone, Copy)]

@@ -14,11 +14,11 @@ use crate::headers::{
     DONT_FRAGMENT, FIVE_WORDS, HOPS, IPV4_FIRST, IPV4_HEADER, IPV6_FIRST, IPV6_HEADER, TCP_HEADER,
     TCP_PROTOCOL,
 };
+use crate::kinds::{AO_HEAD, AO_KIND, MSS_KIND};
 use crate::parts::{put, put_zeros};
 use crate::sums::{complement, words};
 use book_base::{Address, Socket};
 use byteorder::{BigEndian, ByteOrder};
-use tcp_options::{AO_HEAD, AO_KIND, MSS_KIND};
 
 /// What a sender sets in a datagram. The addresses are of one family, and the MAC of TCP-AO has 12
 /// or 16 bytes.

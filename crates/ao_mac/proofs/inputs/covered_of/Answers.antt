@@ -1,5 +1,5 @@
 use Rattle.std.proofs.Common.{length, ap, ◌∙◌, arith}
-use Rattle.tcp_options.specs.Views.{view_ao}
+use Rattle.tcp_segment.specs.Views.{view_ao}
 use Rattle.book_segments.proofs.Found.{found_within}
 use Rattle.ao_mac.proofs.inputs.covered_of.Goals as goal
 

@@ -1,7 +1,7 @@
 use Rattle.std.proofs.Common.{◌≡◌, ℕ, ◌/◌, sym, ◌∙◌}
 use Rattle.book_segments.specs.Options.{Ao, One, find_ao}
 use Rattle.book_macs.specs.MacInput.{mac_input}
-use Rattle.tcp_options.specs.Views.{view_ao}
+use Rattle.tcp_segment.specs.Views.{view_ao}
 use Rattle.ao_mac.specs.declared.inputs.MacInput.{MacInput}
 use Rattle.ao_mac.proofs.InputLaws.{SameParts, refused, holds, decides, one_of, to_parts, of_parts}
 use Rattle.ao_mac.proofs.inputs.same_input.Goals as goal

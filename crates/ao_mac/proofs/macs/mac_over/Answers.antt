@@ -1,4 +1,4 @@
-use Rattle.tcp_options.specs.Views.{view_ao}
+use Rattle.tcp_segment.specs.Views.{view_ao}
 use Rattle.ao_mac.proofs.Parts.{mac_of_fed, one_is}
 use Rattle.ao_mac.proofs.macs.mac_over.Goals as goal
 

@@ -7,7 +7,7 @@ use Rattle.book_shim.specs.declared.kept.Kept.{Kept}
 use Rattle.book_shim.specs.Keeping.{is_keyed}
 use Rattle.book_shim.specs.Leaving.{entered, past_sent}
 use Rattle.law_shim.specs.Seals.{sealed_with}
-use Rattle.key_coordination.specs.declared.choice.Sending.{Sending as Answer}
+use Rattle.ao_check.specs.declared.choice.Sending.{Sending as Answer}
 use Rattle.ao_kdf.specs.declared.way.Way.TheVariants.{Outbound}
 use Rattle.ao_kdf.specs.Cache.{kept}
 use Rattle.ao_check.proofs.KeyLaws.{one_step}

@@ -15,8 +15,8 @@ use Rattle.book_shim.specs.declared.kept.Kept.{Kept}
 use Rattle.book_shim.specs.Keeping.{own_isn, peer_isn}
 use Rattle.book_shim.specs.Relaying.{fitted, length_in_header, with_area}
 use Rattle.book_shim.specs.Leaving.{signs, entered, kept_for, with_ao}
-use Rattle.key_coordination.specs.declared.choice.Sending.{Sending as Answer}
-use Rattle.key_coordination.specs.Sendings.{told}
+use Rattle.ao_check.specs.declared.choice.Sending.{Sending as Answer}
+use Rattle.ao_check.specs.Sendings.{told}
 use Rattle.ao_shim.proofs.LaidLaws.{relaid_told}
 use Rattle.ao_shim.specs.Plans.{ao_after}
 use Rattle.ao_shim.proofs.OutLaws.{signed_is, no_context, no_number, late, no_key, no_room, too_long, within}

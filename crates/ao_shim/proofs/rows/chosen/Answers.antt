@@ -1,6 +1,6 @@
 use Rattle.std.proofs.Common.{◌∙◌}
 use Rattle.book_keys.specs.Coordination.{row_to_send}
-use Rattle.key_coordination.proofs.ChoosingLaws.{chosen_in, found, chooses, refrains}
+use Rattle.ao_check.proofs.ChoosingLaws.{chosen_in, found, chooses, refrains}
 use Rattle.ao_shim.proofs.rows.chosen.Goals as goal
 
 pub returns-in_err-number-clause-sending : goal.returns-in_err-number-clause-sending

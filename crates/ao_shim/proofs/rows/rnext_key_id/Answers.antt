@@ -1,5 +1,5 @@
 use Rattle.book_keys.specs.Choices.{next_row}
-use Rattle.key_coordination.proofs.ChoosingLaws.{next_in, found, asks}
+use Rattle.ao_check.proofs.ChoosingLaws.{next_in, found, asks}
 use Rattle.ao_shim.proofs.rows.rnext_key_id.Goals as goal
 
 pub row-requires-clause-low : goal.row-requires-clause-low

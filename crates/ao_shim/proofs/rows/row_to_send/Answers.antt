@@ -1,5 +1,5 @@
 use Rattle.std.proofs.Common.{sym, ◌∙◌}
-use Rattle.key_coordination.proofs.ChoosingLaws.{stays_current}
+use Rattle.ao_check.proofs.ChoosingLaws.{stays_current}
 use Rattle.ao_shim.proofs.rows.row_to_send.Goals as goal
 
 pub returns-then-is_sendable : goal.returns-then-is_sendable

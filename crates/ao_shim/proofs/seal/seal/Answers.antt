@@ -9,7 +9,7 @@ use Rattle.book_macs.specs.Keys.{traffic_key}
 use Rattle.ao_mac.specs.Macs.{IsMacOf}
 use Rattle.book_macs.specs.Contexts.{bytes_of}
 use Rattle.book_shim.specs.Leaving.{ao_last}
-use Rattle.key_coordination.specs.declared.choice.Sending.{Sending}
+use Rattle.ao_check.specs.declared.choice.Sending.{Sending}
 use Rattle.ao_shim.specs.Laying.{laid}
 use Rattle.ao_shim.specs.Plans.{ao_after}
 use Rattle.ao_shim.proofs.SealLaws.{read_fits, read_room, beside, blank_is, whole_is, whole_long, told_with, laid_fits, laid_one, seals}

@@ -1,6 +1,6 @@
 use Rattle.std.proofs.Common.{refl, ap, ◌∙◌}
-use Rattle.book_counters.specs.declared.counters.Counters.{Counters}
-use Rattle.book_counters.specs.KeyIds.{no_key_ids}
+use Rattle.book_stack.specs.declared.counters.Counters.{Counters}
+use Rattle.book_stack.specs.KeyIds.{no_key_ids}
 use Rattle.aotcp_c.specs.Counters.{told_counters}
 use Rattle.aotcp_c.proofs.counters.node_counters.Goals as goal
 

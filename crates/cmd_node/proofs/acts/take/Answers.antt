@@ -2,7 +2,7 @@ use Rattle.std.proofs.Common.{◌≡◌, ℕ, ◌++◌, drop, length, subst, ari
 use Rattle.book_endpoint.specs.States.{take_out, taking}
 use Rattle.tcp_endpoint.specs.Ends.{Stands}
 use Rattle.cmd_node.proofs.ActLaws.{took_follows}
-use Rattle.link_side.proofs.OfferLaws.{taken_bytes}
+use Rattle.link_report.proofs.OfferLaws.{taken_bytes}
 use Rattle.cmd_node.proofs.acts.take.Goals as goal
 
 pub returns-clause-took : goal.returns-clause-took

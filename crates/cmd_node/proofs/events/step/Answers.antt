@@ -1,6 +1,6 @@
 use Rattle.std.proofs.Common.{List, ℕ, subst}
 use Rattle.book_segments.specs.Segments.{reading}
-use Rattle.node_ends.specs.Arrivals.{Comes}
+use Rattle.stack_ends.specs.EndsArrivals.{Comes}
 use Rattle.cmd_node.proofs.StepLaws.{came_reaches, ticked_reaches}
 use Rattle.cmd_node.proofs.events.step.Goals as goal
 

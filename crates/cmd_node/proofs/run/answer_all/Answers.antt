@@ -3,7 +3,7 @@ use Rattle.std.proofs.lemmas.List.Elements.{All-get_or}
 use Rattle.book_cmd_node.specs.declared.node.NodeEvent.{NodeEvent}
 use Rattle.book_cmd_node.specs.NodeRuns.{most_ends, no_ends, node_from, node_text}
 use Rattle.cmd_node.specs.Scripts.{IsEvent}
-use Rattle.node_ends.specs.Stands.{HoldsAs}
+use Rattle.stack_ends.specs.EndsStands.{HoldsAs}
 use Rattle.cmd_node.proofs.RunLaws.{running_first, running_more, all_run}
 use Rattle.cmd_node.proofs.StepLaws.{fits_all}
 use Rattle.cmd_node.proofs.run.answer_all.Goals as goal

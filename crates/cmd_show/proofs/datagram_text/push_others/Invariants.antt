@@ -1,6 +1,6 @@
 use Rattle.std.proofs.Common.{◌≡◌, ◌++◌, map}
 use Rattle.book_lines.specs.Texts.{spaced}
-use Rattle.book_cmd_show.specs.DatagramTexts.{option_text}
+use Rattle.book_cmd_check.specs.DatagramTexts.{option_text}
 use Rattle.cmd_show.proofs.datagram_text.push_others.Given as goal
 
 abbrev pub invariant-loop-option : goal.invariant-loop-option

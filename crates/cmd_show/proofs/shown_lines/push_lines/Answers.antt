@@ -1,7 +1,7 @@
 use Rattle.std.proofs.lemmas.Result.{err_from_is_err_and}
 use Rattle.book_lines.specs.Said.{said_by}
 use Rattle.cmd_show.specs.Loops.{shown_from}
-use Rattle.book_cmd_show.specs.Show.{bytes_of_line}
+use Rattle.book_cmd_check.specs.Show.{bytes_of_line}
 use Rattle.cmd_show.proofs.TextLaws.{line_refused, line_shown, lines_shown}
 use Rattle.cmd_show.proofs.shown_lines.push_lines.Goals as goal
 

@@ -1,7 +1,7 @@
 use Rattle.std.proofs.Common.{◌≡◌, length, refl, sym, ◌∙◌}
 use Rattle.book_base.specs.Algorithms.{mac_length_of}
 use Rattle.book_segments.specs.Options.{One, find_ao}
-use Rattle.tcp_options.specs.Views.{view_ao}
+use Rattle.tcp_segment.specs.Views.{view_ao}
 use Rattle.cmd_show.proofs.SignedLaws.{signed_so}
 use Rattle.cmd_show.proofs.signed.signed.Goals as goal
 

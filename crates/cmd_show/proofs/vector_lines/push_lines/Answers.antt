@@ -1,7 +1,7 @@
 use Rattle.std.proofs.Common.{arith, ap, length}
 use Rattle.std.proofs.lemmas.Result.{err_from_is_err_and}
 use Rattle.book_lines.specs.Said.{said_by}
-use Rattle.book_cmd_show.specs.Vectors.{vector_of}
+use Rattle.book_cmd_check.specs.Vectors.{vector_of}
 use Rattle.cmd_show.specs.Loops.{no_sums, sums_from}
 use Rattle.cmd_show.proofs.VerifyLaws.{vector_refused, vector_summed, vectors_summed}
 use Rattle.cmd_show.proofs.vector_lines.push_lines.Goals as goal

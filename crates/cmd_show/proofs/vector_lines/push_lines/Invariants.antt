@@ -1,6 +1,6 @@
 use Rattle.std.proofs.Common.{◌≡◌, ◌+◌, ◌≤◌, length}
 use Rattle.book_lines.specs.Said.{said_by}
-use Rattle.book_cmd_show.specs.Vectors.{vector_of}
+use Rattle.book_cmd_check.specs.Vectors.{vector_of}
 use Rattle.cmd_show.specs.Loops.{no_sums, sums_from}
 use Rattle.cmd_show.proofs.vector_lines.push_lines.Given as goal
 

@@ -1,6 +1,6 @@
 use Rattle.std.proofs.Common.{◌≡◌, ◌++◌, drop}
 use Rattle.std.specs.Prelude.{flat_map}
-use Rattle.book_draw_plan.specs.Bars.{bar_byte}
+use Rattle.book_scope_plan.specs.Bars.{bar_byte}
 use Rattle.draw_plan.proofs.bars.push_bar_bytes.Given as goal
 
 abbrev pub invariant-loop-slice : goal.invariant-loop-slice

@@ -1,6 +1,6 @@
 use Rattle.std.proofs.Common.{◌≡◌, ◌++◌, drop}
 use Rattle.std.specs.Prelude.{flat_map}
-use Rattle.book_draw_plan.specs.Bars.{bar_text}
+use Rattle.book_scope_plan.specs.Bars.{bar_text}
 use Rattle.draw_plan.proofs.bars.push_bar_lines.Given as goal
 
 abbrev pub invariant-loop-bar : goal.invariant-loop-bar

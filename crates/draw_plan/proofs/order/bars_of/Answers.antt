@@ -1,5 +1,5 @@
 use Rattle.std.proofs.Common.{arith}
-use Rattle.book_draw_plan.proofs.OrderLaws.{bars_few}
+use Rattle.book_scope_plan.proofs.OrderLaws.{bars_few}
 use Rattle.draw_plan.proofs.order.bars_of.Goals as goal
 
 pub returns-clause-few : goal.returns-clause-few

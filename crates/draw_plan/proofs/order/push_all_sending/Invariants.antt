@@ -1,5 +1,5 @@
 use Rattle.std.proofs.Common.{◌≡◌, ◌++◌, ◌+◌, drop}
-use Rattle.book_draw_plan.specs.BarOrders.{all_sending_bars}
+use Rattle.book_scope_plan.specs.BarOrders.{all_sending_bars}
 use Rattle.draw_plan.specs.Drawn.{way_of}
 use Rattle.draw_plan.proofs.order.push_all_sending.Given as goal
 

@@ -1,5 +1,5 @@
 use Rattle.std.proofs.Common.{◌≡◌, ◌++◌, ◌+◌, drop}
-use Rattle.book_draw_plan.specs.BarOrders.{accept_bars, accepts_under}
+use Rattle.book_scope_plan.specs.BarOrders.{accept_bars, accepts_under}
 use Rattle.draw_plan.proofs.order.push_met.Given as goal
 
 abbrev pub invariant-loop-i : goal.invariant-loop-i

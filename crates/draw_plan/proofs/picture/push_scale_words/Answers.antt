@@ -1,7 +1,7 @@
 use Rattle.std.proofs.Common.{ℕ, ◌++◌, ap, ◌∙◌}
 use Rattle.std.specs.Prelude.{codes, decimal}
-use Rattle.book_draw_plan.specs.Bars.{scale_words}
-use Rattle.book_draw_plan.specs.Slices.{slice_width}
+use Rattle.book_scope_plan.specs.Bars.{scale_words}
+use Rattle.book_scope_plan.specs.Slices.{slice_width}
 use Rattle.book_scope_plan.specs.FindingTexts.{times_text}
 use Rattle.plan_texts.proofs.Parts.{four}
 use Rattle.draw_plan.proofs.picture.push_scale_words.Goals as goal

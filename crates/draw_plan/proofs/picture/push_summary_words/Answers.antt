@@ -1,6 +1,6 @@
 use Rattle.std.proofs.Common.{◌≡◌, ◌++◌, append_assoc}
 use Rattle.std.specs.Prelude.{◌-◌, codes, decimal}
-use Rattle.book_draw_plan.specs.Bars.{summary_words}
+use Rattle.book_scope_plan.specs.Bars.{summary_words}
 use Rattle.draw_plan.proofs.picture.push_summary_words.Goals as goal
 
 pub returns : goal.returns

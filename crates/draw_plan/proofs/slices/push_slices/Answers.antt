@@ -1,5 +1,5 @@
 use Rattle.std.proofs.Common.{◌++◌, arith}
-use Rattle.book_draw_plan.specs.Slices.{slices_from}
+use Rattle.book_scope_plan.specs.Slices.{slices_from}
 use Rattle.draw_plan.proofs.SliceWalk.{last_slice, no_slice, one_slice}
 use Rattle.draw_plan.proofs.slices.push_slices.Goals as goal
 

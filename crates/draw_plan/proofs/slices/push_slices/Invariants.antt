@@ -1,5 +1,5 @@
 use Rattle.std.proofs.Common.{◌≡◌, ◌++◌, ◌+◌, ◌-◌, ◌<◌, ◌^◌}
-use Rattle.book_draw_plan.specs.Slices.{slices_from}
+use Rattle.book_scope_plan.specs.Slices.{slices_from}
 use Rattle.draw_plan.proofs.slices.push_slices.Given as goal
 
 abbrev pub invariant-loop-done : goal.invariant-loop-done

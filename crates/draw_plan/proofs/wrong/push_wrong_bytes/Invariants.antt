@@ -1,6 +1,6 @@
 use Rattle.std.proofs.Common.{◌≡◌, ◌++◌, drop}
 use Rattle.std.specs.Prelude.{flat_map}
-use Rattle.book_draw_plan.specs.Bars.{slice_mark}
+use Rattle.book_scope_plan.specs.Bars.{slice_mark}
 use Rattle.draw_plan.proofs.wrong.push_wrong_bytes.Given as goal
 
 abbrev pub invariant-loop-slice : goal.invariant-loop-slice

@@ -1,5 +1,5 @@
 use Rattle.std.proofs.Common.{◌≡◌, ◌++◌, drop}
-use Rattle.book_draw_session.specs.Folds.{fold_start, folded_lines}
+use Rattle.book_draw.specs.Folds.{fold_start, folded_lines}
 use Rattle.draw_session_rungs.proofs.fold.session_lines.Given as goal
 
 abbrev pub invariant-loop-rung : goal.invariant-loop-rung

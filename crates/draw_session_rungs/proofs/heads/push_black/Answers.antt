@@ -1,6 +1,6 @@
 use Rattle.std.specs.Prelude.{codes}
-use Rattle.page_draw_session_svg.specs.SessionPictures.{outcome_dashes}
-use Rattle.svg_tags.proofs.Parts.{two}
+use Rattle.page_draw_svg.specs.SessionPictures.{outcome_dashes}
+use Rattle.page_svg.proofs.Parts.{two}
 use Rattle.draw_session_rungs.proofs.heads.push_black.Goals as goal
 
 pub returns : goal.returns

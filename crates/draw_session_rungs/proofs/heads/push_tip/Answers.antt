@@ -1,6 +1,6 @@
 use Rattle.std.specs.Prelude.{codes}
-use Rattle.page_draw_session_svg.specs.SessionPictures.{arrow_tip_svg}
-use Rattle.svg_tags.proofs.Parts.{three}
+use Rattle.page_draw_svg.specs.SessionPictures.{arrow_tip_svg}
+use Rattle.page_svg.proofs.Parts.{three}
 use Rattle.draw_session_rungs.proofs.heads.push_tip.Goals as goal
 
 pub returns : goal.returns

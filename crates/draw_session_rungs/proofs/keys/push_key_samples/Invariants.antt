@@ -1,5 +1,5 @@
 use Rattle.std.proofs.Common.{◌≡◌, ◌++◌, drop}
-use Rattle.page_draw_session_svg.specs.SessionPictures.{key_samples_from}
+use Rattle.page_draw_svg.specs.SessionPictures.{key_samples_from}
 use Rattle.draw_session_rungs.proofs.keys.push_key_samples.Given as goal
 
 abbrev pub invariant-loop-place : goal.invariant-loop-place

@@ -1,6 +1,6 @@
 use Rattle.std.proofs.Common.{◌≡◌, ◌++◌, drop}
 use Rattle.std.specs.List.{flat_map}
-use Rattle.book_draw_session.specs.Ladders.{left_line, left_text}
+use Rattle.book_draw.specs.SessionLadders.{left_line, left_text}
 use Rattle.draw_session_rungs.proofs.left.print_left.Given as goal
 
 abbrev pub invariant-loop-run : goal.invariant-loop-run

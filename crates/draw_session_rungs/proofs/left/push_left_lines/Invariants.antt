@@ -1,6 +1,6 @@
 use Rattle.std.proofs.Common.{◌≡◌, ◌++◌, drop, map}
-use Rattle.book_draw_session.specs.Folds.{line_of_left}
-use Rattle.book_draw_session.specs.Times.{left_runs}
+use Rattle.book_draw.specs.Folds.{line_of_left}
+use Rattle.book_draw.specs.Times.{left_runs}
 use Rattle.draw_session_rungs.proofs.left.push_left_lines.Given as goal
 
 abbrev pub invariant-loop-run : goal.invariant-loop-run

@@ -1,6 +1,6 @@
 use Rattle.std.proofs.Common.{◌≡◌, ◌++◌, take, map}
 use Rattle.std.specs.Prelude.{reverse}
-use Rattle.link_side.specs.Sides.{kept_facts}
+use Rattle.link_report.specs.Sides.{kept_facts}
 use Rattle.link_report.specs.Lines.{kept_lines}
 use Rattle.link_report.proofs.summary.push_dropped.Given as goal
 

@@ -1,8 +1,8 @@
 use Rattle.std.proofs.Common.{ℕ, List, Result, Ok, Err, IfOk}
 use Rattle.book_lines.specs.declared.text_fault.TextFault.{TextFault}
-use Rattle.book_cmd_timed.specs.declared.timed.TimedScript.{TimedScript}
+use Rattle.book_cmd_link.specs.declared.timed.TimedScript.{TimedScript}
 use Rattle.text_lines.specs.Readings.{Answers}
-use Rattle.book_cmd_timed.specs.TimedRuns.{timed_script_of}
+use Rattle.book_cmd_link.specs.TimedRuns.{timed_script_of}
 use Rattle.law_scripts.specs.Timed.{IsTimedScript}
 use Rattle.law_scripts.proofs.TimedRanges.{timed_script_ok}
 use Rattle.link_script.proofs.timed.read_timed.Goals as goal

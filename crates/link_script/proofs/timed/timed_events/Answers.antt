@@ -1,5 +1,5 @@
 use Rattle.std.proofs.lemmas.Result.{err_from_is_err_and}
-use Rattle.book_cmd_timed.specs.TimedRuns.{timed_event_of}
+use Rattle.book_cmd_link.specs.TimedRuns.{timed_event_of}
 use Rattle.book_cmd_link.specs.LinkFiles.{events_of}
 use Rattle.link_script.proofs.EventLoop.{event_read, event_refused, events_read, none_read}
 use Rattle.link_script.proofs.timed.timed_events.Goals as goal

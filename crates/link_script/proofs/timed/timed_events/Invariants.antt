@@ -1,5 +1,5 @@
 use Rattle.std.proofs.Common.{◌≡◌, length}
-use Rattle.book_cmd_timed.specs.TimedRuns.{timed_event_of}
+use Rattle.book_cmd_link.specs.TimedRuns.{timed_event_of}
 use Rattle.book_cmd_link.specs.LinkFiles.{events_of}
 use Rattle.link_script.proofs.EventLoop.{after}
 use Rattle.link_script.proofs.timed.timed_events.Given as goal

@@ -4,7 +4,7 @@ use mathlib.Core.Logic.{∥∥₁_elim}
 use Rattle.book_keys.specs.Rows.{Row, Table}
 use Rattle.book_link.specs.Outcomes as book
 use Rattle.link_report.specs.declared.outcome.Outcome.TheVariants as outcome
-use Rattle.link_side.specs.Segments.{length_sent, quiet}
+use Rattle.link_report.specs.Segments.{length_sent, quiet}
 use Rattle.tcp_endpoint.specs.declared.emission.Emission.{Emission}
 use Rattle.tcp_endpoint.specs.declared.emission.Emission.TheVariants as emissions
 use Rattle.link_world.proofs.SendLaws.{Sends, front_bytes, row_lent, row_made, sent_none, sent_some}

@@ -1,6 +1,6 @@
 use Rattle.std.proofs.Common.{◌≡◌, ◌+◌, ◌++◌, drop}
 use Rattle.toml.specs.View.{items_view}
-use Rattle.book_scope_keys.specs.FileFindings.{rows_findings_from}
+use Rattle.book_scope_texts.specs.FileFindings.{rows_findings_from}
 use Rattle.scope_keys.proofs.fields.push_each_row.Given as goal
 
 abbrev pub invariant-loop-i : goal.invariant-loop-i

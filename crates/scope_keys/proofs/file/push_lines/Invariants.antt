@@ -1,6 +1,6 @@
 use Rattle.std.proofs.Common.{◌≡◌, ◌++◌, drop}
 use Rattle.std.specs.Prelude.{flat_map}
-use Rattle.book_scope_keys.specs.Places.{key_finding_line}
+use Rattle.book_scope_texts.specs.Places.{key_finding_line}
 use Rattle.scope_keys.proofs.file.push_lines.Given as goal
 
 abbrev pub invariant-loop-finding : goal.invariant-loop-finding

@@ -1,5 +1,5 @@
 use Rattle.std.proofs.Common.{codes, decimal, length}
-use Rattle.book_scope_keys.specs.FileFindings.{no_faults_line, row_total}
+use Rattle.book_scope_texts.specs.FileFindings.{no_faults_line, row_total}
 use Rattle.scope_keys.proofs.SaidLaws.{five_behind}
 use Rattle.scope_keys.proofs.file.push_no_faults.Goals as goal
 

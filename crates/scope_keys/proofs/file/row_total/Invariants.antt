@@ -1,5 +1,5 @@
 use Rattle.std.proofs.Common.{◌≡◌, ◌≤◌, ◌+◌, ◌*◌, drop}
-use Rattle.book_scope_keys.specs.FileFindings.{row_total}
+use Rattle.book_scope_texts.specs.FileFindings.{row_total}
 use Rattle.scope_keys.proofs.file.row_total.Given as goal
 
 abbrev pub invariant-loop-i : goal.invariant-loop-i

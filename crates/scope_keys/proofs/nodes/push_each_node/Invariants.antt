@@ -1,6 +1,6 @@
 use Rattle.std.proofs.Common.{◌≡◌, ◌+◌, ◌++◌, [], drop}
 use Rattle.toml.specs.View.{items_view}
-use Rattle.book_scope_keys.specs.FileFindings.{nodes_findings_from}
+use Rattle.book_scope_texts.specs.FileFindings.{nodes_findings_from}
 use Rattle.scope_keys.proofs.nodes.push_each_node.Given as goal
 
 abbrev pub invariant-loop-i : goal.invariant-loop-i

@@ -1,6 +1,6 @@
 use Rattle.std.proofs.Common.{codes, decimal}
-use Rattle.book_scope_keys.specs.FileFindings.{overlap_said}
-use Rattle.scope_key_rows.proofs.SaidLaws.{three_behind}
+use Rattle.book_scope_texts.specs.FileFindings.{overlap_said}
+use Rattle.scope_texts.proofs.SaidLaws.{three_behind}
 use Rattle.scope_keys.proofs.refused.push_overlap_said.Goals as goal
 
 pub returns : goal.returns

@@ -1,7 +1,7 @@
 use Rattle.std.proofs.Common.{◌∙◌, sym, refl, arith}
 use Rattle.toml.specs.View.{table_view}
 use Rattle.book_keys.proofs.SyntaxLaws.{syntax_exact}
-use Rattle.book_scope_keys.specs.declared.finding.TomlFault.TheVariants.{Value}
+use Rattle.book_scope_texts.specs.declared.finding.TomlFault.TheVariants.{Value}
 use Rattle.scope_keys.proofs.FileLaws.{report_faulty}
 use Rattle.scope_keys.proofs.report.faulty_report.Goals as goal
 

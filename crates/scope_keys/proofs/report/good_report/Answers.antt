@@ -1,6 +1,6 @@
 use Rattle.std.proofs.Common.{◌∙◌, sym, arith}
 use Rattle.book_keys.specs.Nodes.{tables_of}
-use Rattle.book_scope_keys.specs.declared.finding.TomlFault.TheVariants.{Value}
+use Rattle.book_scope_texts.specs.declared.finding.TomlFault.TheVariants.{Value}
 use Rattle.scope_keys.proofs.FileLaws.{good_amiss, report_good}
 use Rattle.scope_keys.proofs.report.good_report.Goals as goal
 

@@ -1,5 +1,5 @@
 use Rattle.std.proofs.Common.{◌≡◌, ◌++◌, ◌∷◌, [], refl}
-use Rattle.book_scope.specs.PacketLines.{line_by}
+use Rattle.book_captures.specs.PacketLines.{line_by}
 use Rattle.scope_lines.specs.Writes.{found_in}
 use Rattle.scope_lines.proofs.Lines.{found_within, line_done}
 use Rattle.scope_lines.proofs.line.print_line.Goals as goal

@@ -2,7 +2,7 @@ use Rattle.std.proofs.Common.{arith}
 use Rattle.book_base.specs.Lines.{lines_of}
 use Rattle.book_lines.specs.Lines.{saying_lines}
 use Rattle.book_lines.proofs.SayingLaws.{saying_length}
-use Rattle.key_file.specs.KeyFiles.{key_file_of}
+use Rattle.scope_keys.specs.KeyFiles.{key_file_of}
 use Rattle.scope_plan.proofs.PlannedLaws.{never_too_many}
 use Rattle.scope_plan.proofs.plans.plan_input.Goals as goal
 

@@ -4,7 +4,7 @@ use Rattle.book_lines.specs.Said.{said_by}
 use Rattle.book_scope_plan.specs.Connections.{plan_pair_of}
 use Rattle.book_scope_plan.specs.FindingTexts.{one_if}
 use Rattle.book_scope_plan.specs.PlanTexts.{changes_key}
-use Rattle.key_file.specs.KeyFiles.{key_file_of}
+use Rattle.scope_keys.specs.KeyFiles.{key_file_of}
 use Rattle.scope_plan.specs.Plannings.{no_plan, planned_from}
 use Rattle.scope_plan.proofs.PlannedLaws.{line_planned, line_refused, lines_planned}
 use Rattle.scope_plan.proofs.plans.plan_lines.Goals as goal

@@ -1,7 +1,7 @@
 use Rattle.std.proofs.Common.{◌≡◌, ◌+◌, ◌*◌, ◌≤◌, length}
 use Rattle.book_lines.specs.Said.{said_by}
 use Rattle.book_scope_plan.specs.Connections.{plan_pair_of}
-use Rattle.key_file.specs.KeyFiles.{key_file_of}
+use Rattle.scope_keys.specs.KeyFiles.{key_file_of}
 use Rattle.scope_plan.specs.Plannings.{no_plan, planned_from}
 use Rattle.scope_plan.proofs.plans.plan_lines.Given as goal
 

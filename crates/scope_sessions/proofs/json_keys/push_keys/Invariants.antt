@@ -3,7 +3,7 @@ use Rattle.std.specs.List.{flat_map}
 use Rattle.toml.specs.View.{table_view}
 use Rattle.page_sessions_json.specs.Json.{json_items}
 use Rattle.page_sessions_json.specs.SessionJson.{rows_json}
-use Rattle.key_file.specs.KeyFiles.{keys_at}
+use Rattle.scope_keys.specs.KeyFiles.{keys_at}
 use Rattle.scope_sessions.proofs.json_keys.push_keys.Given as goal
 
 abbrev pub invariant-loop-i : goal.invariant-loop-i

@@ -2,7 +2,7 @@ use Rattle.std.proofs.Common.{◌∙◌, ap}
 use Rattle.toml.specs.View.{table_view}
 use Rattle.book_sessions.specs.KeyLines.{last_of}
 use Rattle.book_sessions.specs.Retiring.{carries_row}
-use Rattle.key_file.specs.KeyFiles.{keys_at}
+use Rattle.scope_keys.specs.KeyFiles.{keys_at}
 use Rattle.scope_sessions.proofs.KeyWords.{key_found}
 use Rattle.scope_sessions.proofs.key_texts.push_key.Goals as goal
 

@@ -1,7 +1,7 @@
 use Rattle.std.proofs.Common.{◌++◌, arith}
 use Rattle.toml.specs.View.{table_view}
 use Rattle.book_sessions.specs.KeyLines.{keys_lines}
-use Rattle.key_file.specs.KeyFiles.{keys_at}
+use Rattle.scope_keys.specs.KeyFiles.{keys_at}
 use Rattle.scope_sessions.proofs.KeyWords.{one_more_node}
 use Rattle.scope_sessions.proofs.key_texts.push_keys.Goals as goal
 

@@ -1,7 +1,7 @@
 use Rattle.std.proofs.Common.{◌++◌}
 use Rattle.toml.specs.View.{table_view}
 use Rattle.book_sessions.specs.KeyLines.{key_lines}
-use Rattle.key_file.specs.KeyFiles.{keys_at}
+use Rattle.scope_keys.specs.KeyFiles.{keys_at}
 use Rattle.scope_sessions.proofs.KeyWords.{one_more_row}
 use Rattle.scope_sessions.proofs.key_texts.push_rows.Goals as goal
 

@@ -2,7 +2,7 @@ use Rattle.std.proofs.Common.{◌++◌, arith}
 use Rattle.toml.specs.View.{table_view}
 use Rattle.book_keys.specs.Rows.{Table}
 use Rattle.book_sessions.specs.NamedKeys.{by_rows, naming, retire_answer, retire_answers, retire_line, retire_lines}
-use Rattle.key_file.specs.KeyFiles.{keys_at}
+use Rattle.scope_keys.specs.KeyFiles.{keys_at}
 use Rattle.scope_sessions.proofs.NamedRows.{node_behind}
 use Rattle.scope_sessions.proofs.named_keys.push_all_named.Goals as goal
 

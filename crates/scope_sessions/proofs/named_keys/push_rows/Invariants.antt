@@ -1,7 +1,7 @@
 use Rattle.std.proofs.Common.{◌≡◌, ◌++◌, ◌+◌, drop}
 use Rattle.toml.specs.View.{table_view}
 use Rattle.book_sessions.specs.NamedKeys.{by_rows, naming, retire_answer, retire_line}
-use Rattle.key_file.specs.KeyFiles.{keys_at}
+use Rattle.scope_keys.specs.KeyFiles.{keys_at}
 use Rattle.scope_sessions.proofs.named_keys.push_rows.Given as goal
 
 abbrev pub invariant-loop-i : goal.invariant-loop-i

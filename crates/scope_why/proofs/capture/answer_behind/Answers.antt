@@ -1,7 +1,7 @@
 use Rattle.std.proofs.Common.{[], ◌++◌, List, refl, subst, sym}
 use Rattle.book_cmd_check.specs.declared.given.GivenIsns.{GivenIsns}
 use Rattle.book_sessions.specs.Sessions.{all_stored}
-use Rattle.book_why_texts.specs.Answers.{behind_stored}
+use Rattle.book_why.specs.Answers.{behind_stored}
 use Rattle.capture_walk.proofs.Taken.{smaller}
 use Rattle.scope_why.specs.Fronts.{StandsBehind}
 use Rattle.scope_why.specs.Replies.{asked_of, key_file_of}

@@ -1,6 +1,6 @@
 use Rattle.std.specs.Prelude.{◌==◌, ◌++◌, codes, decimal}
 use Rattle.book_keys.specs.Rows.{receives}
-use Rattle.book_why_texts.specs.Lacks.{lack, lacks, lifetime_lacks, pair_lacks}
+use Rattle.book_why.specs.Lacks.{lack, lacks, lifetime_lacks, pair_lacks}
 use Rattle.scope_why.proofs.Parts.{on_four}
 use Rattle.scope_why.proofs.lacks.push_lacks.Goals as goal
 

@@ -1,7 +1,7 @@
 use Rattle.std.specs.Prelude.{codes}
 use Rattle.std.specs.List.{list_any}
 use Rattle.book_keys.specs.Rows.{fits_port, names}
-use Rattle.book_why_texts.specs.Lacks.{lack}
+use Rattle.book_why.specs.Lacks.{lack}
 use Rattle.scope_why.proofs.Parts.{on_three}
 use Rattle.scope_why.proofs.lacks.push_pair_lacks.Goals as goal
 

@@ -1,5 +1,5 @@
 use Rattle.std.proofs.Common.{◌≡◌, [], drop}
-use Rattle.book_why_texts.specs.OtherIsns.{all_told_at, with_isn_pairs}
+use Rattle.book_why.specs.OtherIsns.{all_told_at, with_isn_pairs}
 use Rattle.scope_why.proofs.others.other_isns.Given as goal
 
 abbrev pub invariant-loop-given : goal.invariant-loop-given

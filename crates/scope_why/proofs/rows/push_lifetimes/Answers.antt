@@ -1,7 +1,7 @@
 use Rattle.std.specs.Prelude.{[], ◌∷◌, ◌++◌, codes, List, ℕ}
 use Rattle.std.proofs.Common.{sym, ap}
 use Rattle.book_lines.specs.Texts.{spaced}
-use Rattle.book_why_texts.specs.Lacks.{lifetime_texts}
+use Rattle.book_why.specs.Lacks.{lifetime_texts}
 use Rattle.scope_why.proofs.Parts.{on_four, on_same, spaced_more}
 use Rattle.scope_why.proofs.rows.push_lifetimes.Goals as goal
 

@@ -1,6 +1,6 @@
 use Rattle.std.proofs.Common.{◌≡◌, ◌++◌, ◌+◌, drop}
 use Rattle.toml.specs.View.{table_view}
-use Rattle.book_why_texts.specs.Lacks.{lacks, rows_and_lacks}
+use Rattle.book_why.specs.Lacks.{lacks, rows_and_lacks}
 use Rattle.scope_why.proofs.rows.push_rows_and_lacks.Given as goal
 
 abbrev pub invariant-loop-i : goal.invariant-loop-i

@@ -1,10 +1,10 @@
 use Rattle.std.specs.Prelude.{[], ◌∷◌, ◌++◌, codes, decimal}
-use Rattle.book_cmd_show.specs.DatagramTexts.{number_texts}
+use Rattle.book_cmd_check.specs.DatagramTexts.{number_texts}
 use Rattle.book_lines.specs.Texts.{spaced}
 use Rattle.book_scope_texts.specs.Addresses.{usual_address_text}
 use Rattle.book_scope_texts.specs.Instants.{instant_text}
 use Rattle.book_segments.specs.Options.{find_ao}
-use Rattle.book_why_texts.specs.Answers.{option_texts_of, segment_line}
+use Rattle.book_why.specs.Answers.{option_texts_of, segment_line}
 use Rattle.scope_why.proofs.Parts.{four_spaced, on_four, on_same}
 use Rattle.scope_why.proofs.segment_line.push_segment_line.Goals as goal
 

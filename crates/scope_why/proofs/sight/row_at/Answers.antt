@@ -3,8 +3,8 @@ use Rattle.book_endpoint.specs.Verdicts.{row_taking}
 use Rattle.book_keys.specs.Lookups.{accept_of}
 use Rattle.book_segments.specs.Options.{Ao}
 use Rattle.book_segments.specs.Segments.{pair_reached}
-use Rattle.book_why_texts.specs.Sights.{ao_at, row_at}
-use Rattle.tcp_options.specs.Views.{view_ao}
+use Rattle.book_why.specs.Sights.{ao_at, row_at}
+use Rattle.tcp_segment.specs.Views.{view_ao}
 use Rattle.scope_why.specs.Views.{sight_of}
 use Rattle.scope_why.proofs.SightLaws.{found_later, lacking_first, lacking_later}
 use Rattle.scope_why.proofs.RowLaws.{absent, at_place, expired, taken}

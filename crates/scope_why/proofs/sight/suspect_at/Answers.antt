@@ -1,5 +1,5 @@
 use Rattle.std.proofs.Common.{sym}
-use Rattle.tcp_options.specs.Views.{view_ao}
+use Rattle.tcp_segment.specs.Views.{view_ao}
 use Rattle.scope_why.specs.Finding.{numbered_of}
 use Rattle.scope_why.specs.Views.{sight_of}
 use Rattle.scope_why.proofs.SightLaws.{suspect_found, suspect_no_ao, suspect_no_isns, suspect_no_number, suspect_no_row}

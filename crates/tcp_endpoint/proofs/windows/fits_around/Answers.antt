@@ -1,5 +1,5 @@
 use Rattle.std.proofs.Common.{◌+◌, arith}
-use Rattle.wrap_seq.specs.Counter.{number}
+use Rattle.tcp_segment.specs.Counter.{number}
 use Rattle.tcp_endpoint.proofs.RingLaws.{fits_none, fits_first, fits_last}
 use Rattle.tcp_endpoint.proofs.windows.fits_around.Goals as goal
 

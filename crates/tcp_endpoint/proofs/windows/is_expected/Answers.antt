@@ -1,5 +1,5 @@
 use Rattle.std.proofs.Common.{◌<◌, ◌^◌, refl, rules}
-use Rattle.wrap_seq.specs.Counter.{number}
+use Rattle.tcp_segment.specs.Counter.{number}
 use Rattle.tcp_endpoint.proofs.RingLaws.{expected_test}
 use Rattle.tcp_endpoint.proofs.windows.is_expected.Goals as goal
 

@@ -1,5 +1,5 @@
 use Rattle.std.proofs.Common.{refl}
-use Rattle.wrap_seq.specs.Counter.{number}
+use Rattle.tcp_segment.specs.Counter.{number}
 use Rattle.tcp_endpoint.proofs.RingLaws.{window_test}
 use Rattle.tcp_endpoint.proofs.windows.is_in_window.Goals as goal
 

@@ -1,4 +1,4 @@
-use Rattle.tcp_options.specs.Views.{view_ao}
+use Rattle.tcp_segment.specs.Views.{view_ao}
 use Rattle.book_segments.proofs.Found.{found_within}
 use Rattle.ao_mac.proofs.front.Front.push_covered.Goals as goal
 

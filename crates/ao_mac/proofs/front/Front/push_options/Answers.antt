@@ -1,5 +1,5 @@
 use Rattle.std.proofs.Common.{refl}
-use Rattle.tcp_options.specs.Views.{view_ao}
+use Rattle.tcp_segment.specs.Views.{view_ao}
 use Rattle.ao_mac.proofs.FrontLaws.{put_two, put_three}
 use Rattle.ao_mac.proofs.Parts.{covered-all}
 use Rattle.ao_mac.proofs.front.Front.push_options.Goals as goal

@@ -4,7 +4,7 @@ use Rattle.book_base.specs.declared.address.Socket.{Socket}
 use Rattle.book_segments.specs.Segments.{Reading, Read, Bad}
 use Rattle.book_stack.specs.Calls.{Incoming}
 use Rattle.book_stack.specs.Turns.{clocked}
-use Rattle.node_ends.specs.declared.answer.NodeArrival.TheVariants as arrivals
+use Rattle.stack_ends.specs.declared.answer.NodeArrival.TheVariants as arrivals
 use Rattle.ao_stack.specs.declared.input.Heard.TheVariants as heards
 use Rattle.ao_stack.specs.Costs.{CostsInput}
 use Rattle.ao_stack.specs.Passed.{PassesAs}

@@ -22,8 +22,8 @@ use Rattle.std.specs.declared.option.Option.TheVariants.{Some}
 use Rattle.std.specs.contracts.alloc.Global.{the_row as global}
 use Rattle.std.proofs.alloc.Global.TheLaws.{the_row_laws as global_laws}
 use Rattle.std.specs.contracts.impls.GlobalAllocator.TheImpl.{ghosts}
-use Rattle.loose.proofs.Values.{both, Loose, loose_good, loose_out}
-use Rattle.ao_counters.specs.contracts.counted_stack.CountedStack.{the_row as store}
+use Rattle.aotcp_c.proofs.Values.{both, Loose, loose_good, loose_out}
+use Rattle.ao_stack.specs.contracts.counted_stack.CountedStack.{the_row as store}
 use Rattle.aotcp_c.proofs.Places.{word, place_in}
 use Rattle.aotcp_c.specs.contracts.handle.Place.of.{ended, clauses}
 use Rattle.aotcp_c.specs.contracts.handle.Place.of.Key.{name as #self}

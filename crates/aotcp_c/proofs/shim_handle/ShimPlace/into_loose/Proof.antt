@@ -26,7 +26,7 @@ use Rattle.std.specs.declared.option.Option.TheVariants.{Some}
 use Rattle.std.specs.contracts.alloc.Global.{the_row as global}
 use Rattle.std.proofs.alloc.Global.TheLaws.{the_row_laws as global_laws}
 use Rattle.std.specs.contracts.impls.GlobalAllocator.TheImpl.{ghosts}
-use Rattle.loose.proofs.Values.{al, both, loose_good, loose_in}
+use Rattle.aotcp_c.proofs.Values.{al, both, loose_good, loose_in}
 use Rattle.shim_pairs.specs.contracts.shim.Shim.{the_row as store}
 use Rattle.aotcp_c.specs.Held.{held_shim, content}
 use Rattle.aotcp_c.specs.contracts.shim_handle.ShimPlace.{the_row as place}

@@ -1,7 +1,7 @@
 use Rattle.std.proofs.Common.{ap}
 use Rattle.book_link.specs.Runs.{run}
 use Rattle.book_link.specs.Worlds.{live, side}
-use Rattle.link_side.proofs.ActLaws.{live_is}
+use Rattle.link_report.proofs.ActLaws.{live_is}
 use Rattle.link_world.proofs.world.World.live.Goals as goal
 
 pub returns-in-Some : goal.returns-in-Some

@@ -5,8 +5,8 @@ use Rattle.book_link.specs.Runs.{empty}
 use Rattle.link_report.specs.declared.outcome.Outcome.{Outcome}
 use Rattle.link_report.specs.Outcomes.{AreShown}
 use Rattle.both_ends.specs.declared.values.BothEnds.{BothEnds}
-use Rattle.link_side.specs.declared.side.Side.{Side}
-use Rattle.link_side.specs.Sides.{StandsSide}
+use Rattle.link_report.specs.declared.side.Side.{Side}
+use Rattle.link_report.specs.Sides.{StandsSide}
 use Rattle.link_world.specs.Stands.{setup_of}
 use Rattle.link_world.proofs.SetupLaws.{apart}
 use Rattle.std.specs.List.{AllByRecursion}

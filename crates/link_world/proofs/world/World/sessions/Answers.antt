@@ -2,8 +2,8 @@ use Rattle.std.proofs.Common.{◌≡◌, length, sym, ap, ◌∙◌, arith}
 use Rattle.std.proofs.lemmas.List.{length-map, length-reverse}
 use Rattle.book_link.specs.Runs.{run}
 use Rattle.book_link.specs.Worlds.{side}
-use Rattle.link_side.specs.Sides.{facts_of, kept_facts}
-use Rattle.link_side.proofs.ActLaws.{live_is}
+use Rattle.link_report.specs.Sides.{facts_of, kept_facts}
+use Rattle.link_report.proofs.ActLaws.{live_is}
 use Rattle.link_world.proofs.world.World.sessions.Goals as goal
 
 pub returns-in-Some : goal.returns-in-Some

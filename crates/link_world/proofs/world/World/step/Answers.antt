@@ -1,7 +1,7 @@
 use Rattle.std.proofs.Common.{◌≡◌, ◌+◌, ◌<◌, ℕ, List, [], ◌∷◌, ◌++◌, length, vec_len, vec_capacity, ap, ◌∙◌, arith, length-append}
 use Rattle.std.specs.Coded.{le_prop}
 use mathlib.Core.Logic.{∥∥₁_elim, ∥∥₁_map}
-use Rattle.link_log.proofs.LogLaws.{only_ok}
+use Rattle.link_report.proofs.LogLaws.{only_ok}
 use Rattle.law_headline.proofs.LawfulRuns.{lawful}
 use Rattle.law_headline.proofs.Through.{few_through}
 use Rattle.link_report.specs.declared.outcome.Outcome.{Outcome}

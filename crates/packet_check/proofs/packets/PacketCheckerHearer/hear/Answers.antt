@@ -1,4 +1,4 @@
-use Rattle.book_scope_check.specs.CheckedPackets.{checked_from, classes_of}
+use Rattle.book_sessions.specs.CheckedPackets.{checked_from, classes_of}
 use Rattle.packet_check.specs.Reading.{held_from}
 use Rattle.packet_check.proofs.PacketWalk.{packet_heard}
 use Rattle.packet_check.proofs.packets.PacketCheckerHearer.hear.Goals as goal

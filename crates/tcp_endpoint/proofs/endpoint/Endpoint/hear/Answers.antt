@@ -2,7 +2,7 @@ use Rattle.std.proofs.Common.{false, refl, sym, ap, ◌∙◌, subst, arith}
 use Rattle.std.specs.Prelude.{if◌then◌else◌}
 use Rattle.book_segments.specs.Meant.{meant}
 use Rattle.book_segments.specs.Segments.{has, RST, segment_length}
-use Rattle.wrap_seq.specs.Counter.{number}
+use Rattle.tcp_segment.specs.Counter.{number}
 use Rattle.ao_check.specs.Bonds.{Fits}
 use Rattle.book_endpoint.specs.declared.arrival.Arrival.TheVariants as answers
 use Rattle.book_endpoint.specs.Arrivals as book

@@ -1,6 +1,6 @@
 use Rattle.std.proofs.Common.{◌≡◌, refl, sym, ap, ◌∙◌, subst}
 use Rattle.book_segments.specs.Meant.{meant}
-use Rattle.wrap_seq.specs.Counter.{number}
+use Rattle.tcp_segment.specs.Counter.{number}
 use Rattle.book_endpoint.specs.declared.phase.Phase.TheVariants.{Established}
 use Rattle.book_endpoint.specs.Hearing as hearing
 use Rattle.tcp_endpoint.specs.Arrivals.{Reaches}

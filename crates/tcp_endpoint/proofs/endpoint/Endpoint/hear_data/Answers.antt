@@ -4,7 +4,7 @@ use Rattle.book_endpoint.specs.States as states
 use Rattle.book_endpoint.specs.declared.arrival.Arrival.TheVariants as answers
 use Rattle.book_endpoint.specs.Hearing as hearing
 use Rattle.stream_buffers.specs.Kept.{byte_at, missing_then, grown}
-use Rattle.wrap_seq.specs.Counter.{number}
+use Rattle.tcp_segment.specs.Counter.{number}
 use Rattle.tcp_endpoint.specs.Fins.{is_at, past_or}
 use Rattle.tcp_endpoint.specs.Numbers.{fin_in, value_in, wl1_in, wl2_in}
 use Rattle.tcp_endpoint.proofs.ReadyLaws.{ready_from}

@@ -1,7 +1,0 @@
-use Rattle.std.proofs.Common.{◌∙◌}
-use Rattle.aes_cmac.proofs.Columns.{blocks, quarters}
-use Rattle.aes_cmac.proofs.block.Block.of.Goals as goal
-
-pub returns : goal.returns
-returns c =
-    blocks _ _ _ _ _ _ _ _ c.word_at.ensures c.word_at-2.ensures c.word_at-3.ensures c.word_at-4.ensures ∙ quarters c.args.bytes.now c.requires

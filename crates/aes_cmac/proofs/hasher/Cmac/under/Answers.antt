@@ -1,8 +1,0 @@
-use Rattle.aes_cmac.specs.Block.{bytes_of}
-use Rattle.aes_cmac.proofs.Chains.{chain_start, zeros}
-use Rattle.aes_cmac.proofs.hasher.Cmac.under.Goals as goal
-
-pub returns : goal.returns
-returns c =
-    let key = bytes_of c.args.key in
-    record { keyed = c.under-cipher.ensures; subkeys = c.of.ensures key c.under-cipher.ensures; same = λ more. rw (c.to_halves.ensures, zeros) (chain_start key more) }

@@ -1,5 +1,0 @@
-use Rattle.aes_cmac.proofs.TableTest.{fourth_entry_at}
-use Rattle.aes_cmac.proofs.table.fourth_products.Goals as goal
-
-pub returns : goal.returns
-returns c = fourth_entry_at c.args.byte c.ranges.byte.fits

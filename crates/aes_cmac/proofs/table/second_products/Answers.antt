@@ -1,5 +1,0 @@
-use Rattle.aes_cmac.proofs.TableTest.{second_entry_at}
-use Rattle.aes_cmac.proofs.table.second_products.Goals as goal
-
-pub returns : goal.returns
-returns c = second_entry_at c.args.byte c.ranges.byte.fits

@@ -1,6 +1,0 @@
-mod CallLaws
-mod HeldLaws
-mod MapLaws
-mod PassedLaws
-mod StandLaws
-mod TurnLaws

@@ -1,5 +1,0 @@
-pub mod Answers
-pub mod Counts
-pub mod Passed
-pub mod Stands
-pub mod Tallies

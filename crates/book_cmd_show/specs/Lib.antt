@@ -1,5 +1,0 @@
-pub mod DatagramTexts
-pub mod Show
-pub mod VectorWords
-pub mod Vectors
-pub mod Verified

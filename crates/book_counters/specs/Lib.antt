@@ -1,2 +1,0 @@
-pub mod KeyIds
-pub mod Counters

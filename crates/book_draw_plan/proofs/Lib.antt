@@ -1,4 +1,0 @@
-pub mod FillingLaws
-pub mod MarkLaws
-pub mod OrderLaws
-mod SliceLaws

@@ -1,4 +1,0 @@
-pub mod BarOrders
-pub mod Bars
-pub mod Slices
-pub mod Wrongs

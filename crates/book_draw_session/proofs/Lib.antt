@@ -1,6 +1,0 @@
-pub mod Folded
-pub mod Heard
-pub mod Numbers
-pub mod Places
-pub mod Steps
-pub mod Table

@@ -1,5 +1,0 @@
-use Rattle.book_draw_session.proofs.Heard.{all_heard}
-use Rattle.book_draw_session.proofs.laws.rungs_are_those_of_the_segments.Goals as goal
-
-pub returns : goal.returns
-returns c = all_heard

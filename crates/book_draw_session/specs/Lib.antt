@@ -1,4 +1,0 @@
-pub mod Folds
-pub mod Ladders
-pub mod Rungs
-pub mod Times

@@ -1,3 +1,0 @@
-pub mod CheckedLines
-pub mod CheckedPackets
-pub mod Outcomes

@@ -1,5 +1,0 @@
-use Rattle.book_scope_keys.proofs.WalkLaws.{findings_exact}
-use Rattle.book_scope_keys.proofs.laws.findings_are_of_the_walk.Goals as goal
-
-pub returns : goal.returns
-returns c = findings_exact

@@ -1,5 +1,0 @@
-use Rattle.book_scope_keys.proofs.PlaceLaws.{place_told}
-use Rattle.book_scope_keys.proofs.laws.told_places_are_theirs.Goals as goal
-
-pub returns : goal.returns
-returns c = place_told

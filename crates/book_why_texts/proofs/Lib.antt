@@ -1,5 +1,0 @@
-pub mod AnswerLaws
-pub mod LackLaws
-pub mod PartLaws
-pub mod SuspectLaws
-pub mod TellingLaws

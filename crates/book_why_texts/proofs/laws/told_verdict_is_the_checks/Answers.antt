@@ -1,5 +1,0 @@
-use Rattle.book_why_texts.proofs.AnswerLaws.{verdict_told}
-use Rattle.book_why_texts.proofs.laws.told_verdict_is_the_checks.Goals as goal
-
-pub returns : goal.returns
-returns c = verdict_told

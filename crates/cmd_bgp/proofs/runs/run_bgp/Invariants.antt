@@ -1,6 +1,0 @@
-use Rattle.link_world.specs.Stands.{setup_of}
-use Rattle.cmd_bgp.proofs.RunLaws.{Reached}
-use Rattle.cmd_bgp.proofs.runs.run_bgp.Given as goal
-
-abbrev pub invariant-loop-event : goal.invariant-loop-event
-invariant-loop-event l = Reached l.world (setup_of l.fn.setup) l.events l.event-index l.number l.readers l.said.text.items l.said.faults

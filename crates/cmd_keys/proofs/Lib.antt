@@ -1,5 +1,0 @@
-mod JudgedLaws
-mod JudgementLaws
-mod KeyLaws
-pub mod LintLaws
-mod HearingLaws

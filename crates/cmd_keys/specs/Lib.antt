@@ -1,4 +1,0 @@
-pub mod Judgements
-pub mod RowTexts
-pub mod CarriesThrough
-pub mod Unmet

@@ -1,0 +1,11 @@
+pub mod Answers
+pub mod Changes
+pub mod Events
+pub mod Links
+pub mod Reports
+pub mod Watches
+pub mod Follows
+pub mod Places
+pub mod Reads
+pub mod Streams
+pub mod Tellings

@@ -1,4 +1,0 @@
-pub mod AnswerLaws
-pub mod Expansions
-pub mod LinkLaws
-pub mod RunLaws

@@ -1,7 +1,0 @@
-use Rattle.std.proofs.Common.{◌-◌}
-use Rattle.cmd_timed.specs.Links.{waits}
-use Rattle.cmd_timed.proofs.Expansions.{Left}
-use Rattle.cmd_timed.proofs.link.Link.wait_until.Given as goal
-
-abbrev pub invariant-loop-turn : goal.invariant-loop-turn
-invariant-loop-turn l = Left (waits l.fn.most l.fn.end l.fn.to) (waits (l.fn.most - l._turn) l.fn.end l.fn.to) l.fn.self l.self

@@ -1,6 +1,0 @@
-pub mod Answers
-pub mod Changes
-pub mod Events
-pub mod Links
-pub mod Reports
-pub mod Watches

@@ -1,3 +1,0 @@
-mod DateWalk
-pub mod DrawsLaws
-mod WidthLaws

@@ -1,9 +1,0 @@
-use Rattle.std.specs.Prelude.{codes}
-use Rattle.page_draw_svg.specs.Pictures.{dash_attribute}
-use Rattle.svg_tags.proofs.Parts.{two}
-use Rattle.draw_svg.proofs.arrows.push_tip.Goals as goal
-
-pub returns : goal.returns
-returns c =
-    two c.args.out.now.items (codes " marker-end=\"url(#tip)\"") (dash_attribute c.args.stroke) c.extend_from_slice.new.self.items _
-    c.in_ok-extend_from_slice.ensures.items (rw c.dash_attribute.ensures at c.in_ok-extend_from_slice-2.ensures.items)

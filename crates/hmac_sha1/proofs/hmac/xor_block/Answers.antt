@@ -1,6 +1,0 @@
-use Rattle.std.proofs.Common.{arith}
-use Rattle.hmac_sha1.proofs.Filled.{xored_step}
-use Rattle.hmac_sha1.proofs.hmac.xor_block.Goals as goal
-
-pub loop-byte-preserved : goal.loop-byte-preserved
-loop-byte-preserved c = xored_step c.args.block _ c.loop-byte.byte-index c.args.pad (omega arith) c.loop-byte.invariant

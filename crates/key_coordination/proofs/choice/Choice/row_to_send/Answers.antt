@@ -1,7 +1,0 @@
-use Rattle.std.proofs.Common.{sym, ◌∙◌}
-use Rattle.key_coordination.proofs.ChoosingLaws.{stays_current}
-use Rattle.key_coordination.proofs.choice.Choice.row_to_send.Goals as goal
-
-pub returns-then-is_sendable : goal.returns-then-is_sendable
-returns-then-is_sendable c =
-    rw (← c.self.view_is, c.in-Some.is) (stays_current c.args.table.now.rows c.args.pair.now c.args.now c.in-Some.current (sym c.is_sendable.ensures ∙ c.if-is_sendable.true))

@@ -1,6 +1,0 @@
-use Rattle.std.proofs.lemmas.Result.{IfOk-weaker}
-use Rattle.key_file.proofs.FoundLaws.{found_no_toml}
-use Rattle.key_file.proofs.found.undocumented.Goals as goal
-
-pub returns : goal.returns
-returns c = IfOk-weaker c.syntax_finding.result _ _ (λ found h. found_no_toml c.args.text.now found.items c.requires h) c.syntax_finding.ensures

@@ -1,5 +1,0 @@
-pub mod Datagrams
-pub mod Files
-pub mod Lines
-pub mod Reasons
-pub mod SameLines

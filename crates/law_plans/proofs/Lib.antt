@@ -1,4 +1,0 @@
-mod Changing
-mod Mending
-mod Reconfigured
-mod Telling

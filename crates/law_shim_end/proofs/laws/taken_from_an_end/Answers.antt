@@ -1,8 +1,0 @@
-use Rattle.law_shim_end.proofs.Welcoming.{again, next}
-use Rattle.law_shim_end.proofs.laws.taken_from_an_end.Goals as goal
-
-pub returns-clause-next : goal.returns-clause-next
-returns-clause-next c = next
-
-pub returns-clause-again : goal.returns-clause-again
-returns-clause-again c = again

@@ -1,5 +1,0 @@
-use Rattle.law_shim_end.proofs.RelayedNumbers.{one_number}
-use Rattle.law_shim_end.proofs.relayed.no_laps.Goals as goal
-
-pub returns : goal.returns
-returns c = one_number

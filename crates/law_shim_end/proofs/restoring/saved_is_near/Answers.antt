@@ -1,5 +1,0 @@
-use Rattle.law_shim_end.proofs.Growing.{goes_on}
-use Rattle.law_shim_end.proofs.restoring.saved_is_near.Goals as goal
-
-pub returns : goal.returns
-returns c = goes_on

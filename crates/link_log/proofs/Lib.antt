@@ -1,4 +1,0 @@
-pub mod AccountLaws
-pub mod ContextLaws
-pub mod LogLaws
-pub mod NumberLaws

@@ -1,6 +1,0 @@
-use Rattle.std.proofs.Common.{arith}
-use Rattle.link_log.proofs.ContextLaws.{all_equal}
-use Rattle.link_log.proofs.context.has_same_numbers.Goals as goal
-
-pub returns : goal.returns
-returns c = all_equal c.args.one.now c.args.other.now (omega arith) (omega arith) (omega arith) (omega arith) (omega arith) (omega arith) (omega arith) (omega arith)

@@ -1,4 +1,0 @@
-pub mod Contexts
-pub mod Entries
-pub mod Logs
-pub mod Numbers

@@ -1,4 +1,0 @@
-pub mod Outcomes
-pub mod Segments
-pub mod Sides
-pub mod Steps

@@ -1,3 +1,0 @@
-pub mod MapLaws
-pub mod NodeLaws
-pub mod HoldLaws

@@ -1,0 +1,9 @@
+use Rattle.std.specs.Prelude.{codes}
+use Rattle.page_draw_svg.specs.Pictures.{dash_attribute}
+use Rattle.page_svg.proofs.Parts.{two}
+use Rattle.scope_draw.proofs.arrows.push_tip.Goals as goal
+
+pub returns : goal.returns
+returns c =
+    two c.args.out.now.items (codes " marker-end=\"url(#tip)\"") (dash_attribute c.args.stroke) c.extend_from_slice.new.self.items _
+    c.in_ok-extend_from_slice.ensures.items (rw c.dash_attribute.ensures at c.in_ok-extend_from_slice-2.ensures.items)

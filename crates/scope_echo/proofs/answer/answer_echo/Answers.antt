@@ -1,7 +1,0 @@
-use Rattle.link_world.proofs.SetupLaws.{apart}
-use Rattle.cmd_link.proofs.ScriptLaws.{all_can_happen, key_lengths, names_key}
-use Rattle.law_scripts.proofs.Counts.{few_events}
-use Rattle.scope_echo.proofs.answer.answer_echo.Goals as goal
-
-pub echo_report-requires-clause-few : goal.echo_report-requires-clause-few
-echo_report-requires-clause-few c = rw c.as_slice-2.ensures (few_events c.in_ok-script.script c.in_ok-script.ensures.grammar)

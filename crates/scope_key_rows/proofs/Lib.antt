@@ -1,4 +1,0 @@
-pub mod FindingLaws
-pub mod KeyLaws
-pub mod SaidLaws
-pub mod WalkLaws

@@ -1,4 +1,0 @@
-mod MomentLaws
-pub mod PlaceLaws
-pub mod ShownLaws
-pub mod WordLaws

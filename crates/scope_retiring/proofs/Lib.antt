@@ -1,3 +1,0 @@
-pub mod AtPlaceLaws
-pub mod LeftLaws
-pub mod OwnUses

@@ -1,3 +1,0 @@
-pub mod AtPlaces
-pub mod Gone
-pub mod Known

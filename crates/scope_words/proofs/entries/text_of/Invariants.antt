@@ -1,7 +1,0 @@
-use Rattle.std.proofs.Common.{◌≡◌, drop}
-use Rattle.scope_words.specs.Meanings.{pairs, text_of}
-use Rattle.scope_words.proofs.entries.text_of.Given as goal
-
-abbrev pub invariant-loop-entry : goal.invariant-loop-entry
-invariant-loop-entry l =
-    text_of l.name (pairs (drop l.entry-index l.given)) ≡ text_of l.name (pairs l.given)

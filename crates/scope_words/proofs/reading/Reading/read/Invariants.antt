@@ -1,9 +1,0 @@
-use Rattle.std.proofs.Common.{◌≡◌, drop, map, string_bytes}
-use Rattle.scope_words.specs.Meanings.{state_of}
-use Rattle.scope_words.specs.Readings.{reading}
-use Rattle.scope_words.proofs.reading.Reading.read.Given as goal
-
-abbrev pub invariant-loop-text : goal.invariant-loop-text
-invariant-loop-text l =
-    reading l.word (state_of l.self) (map string_bytes (drop l.text-index l.words))
-    ≡ reading l.word (state_of l.initial.self) (map string_bytes l.words)

@@ -1,6 +1,0 @@
-use Rattle.std.proofs.Common.{◌≡◌, ◌++◌, drop}
-use Rattle.session_index.specs.Places.{uses_at}
-use Rattle.session_index.proofs.groups.uses_at.Given as goal
-
-abbrev pub invariant-loop-place : goal.invariant-loop-place
-invariant-loop-place l = l.out.items ++ uses_at l.uses (drop l.place-index l.places) ≡ uses_at l.uses l.places

@@ -1,6 +1,0 @@
-use Rattle.std.proofs.Common.{◌≡◌, ◌+◌, drop}
-use Rattle.session_index.specs.Places.{place_of_reason}
-use Rattle.session_index.proofs.passed.place_of_reason.Given as goal
-
-abbrev pub invariant-loop-i : goal.invariant-loop-i
-invariant-loop-i l = place_of_reason l.why l.passed ≡ place_of_reason l.why (drop l.i l.passed) + l.i

@@ -1,4 +1,0 @@
-pub mod FrontParts
-pub mod Keeping
-pub mod PartLaws
-pub mod ZerosLaws

@@ -1,6 +1,0 @@
-use Rattle.why_macs.proofs.FrontParts.{checksum_read}
-use Rattle.why_macs.proofs.changes.checksum_of.Goals as goal
-
-pub returns : goal.returns
-returns c =
-    checksum_read c.header-header.result.now c.args.suspect.now.datagram.now c.header-header.ensures.bytes c.header-header.ensures.fits.checksum

@@ -1,8 +1,0 @@
-use Rattle.std.proofs.Common.{refl}
-use Rattle.ao_mac.proofs.FrontLaws.{put_two, put_three}
-use Rattle.book_segments.specs.Bytes.{put2, put4}
-use Rattle.why_macs.proofs.context.push_ports.Goals as goal
-
-pub returns : goal.returns
-unfolding put2
-returns c = put_two _ _ _ _ _ _ refl c.in_ok-push_two.ensures c.in_ok-push_two-2.ensures

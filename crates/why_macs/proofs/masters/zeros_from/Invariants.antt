@@ -1,5 +1,0 @@
-use Rattle.why_macs.proofs.ZerosLaws.{ZerosFrom}
-use Rattle.why_macs.proofs.masters.zeros_from.Given as goal
-
-abbrev pub invariant-loop-i : goal.invariant-loop-i
-invariant-loop-i l = ZerosFrom l.bytes l.i l.end
