@@ -10,19 +10,19 @@ use crate::reading::judged_from;
 use ao_base::{Sink, Source};
 use book_scope_run::Halt;
 use book_sessions::GivenIsns;
-use key_table::Tables;
 use packet_check::check_capture;
+use scope_keys::KeyFile;
 use std::alloc::Global;
 
 fn write_lines<I: Source, O: Sink>(
     alloc: Global,
     all: bool,
-    tables: Tables,
+    file: KeyFile,
     isns: &[GivenIsns],
     input: &mut I,
     out: &mut O,
 ) -> Result<bool, Halt>
-    ensures { (i : List ℕ) × Checks all tables isns.now
+    ensures { (i : List ℕ) × Checks all file.tables isns.now
         (record {
           given = i;
           input_before = I.side input.old;
@@ -31,7 +31,7 @@ fn write_lines<I: Source, O: Sink>(
           out_now = O.side out.new;
         }) result }
 {
-    match check_capture(alloc, all, tables, isns, input, out) {
+    match check_capture(alloc, all, file.tables, isns, input, out) {
         Ok(is_amiss) => Ok(is_amiss),
         Err(halt) => Err(halt_of_walk(halt)),
     }
@@ -55,7 +55,7 @@ pub(crate) fn act<K: Source, J: Source, I: Source, O: Sink>(
         Ok(judged) => write_lines(
             alloc,
             asked.all,
-            judged.file.tables,
+            judged.file,
             judged.isns.as_slice(),
             input,
             out,

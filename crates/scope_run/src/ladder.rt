@@ -12,8 +12,8 @@ use crate::words::{drawn_alone, laps_asked, session_asked, within_asked};
 use ao_base::{Sink, Source};
 use book_scope_run::Halt;
 use book_sessions::GivenIsns;
-use key_table::Tables;
 use page_draw_svg::LadderForm;
+use scope_keys::KeyFile;
 use scope_ladder::{LadderRequest, draw_session};
 use std::alloc::Global;
 
@@ -45,12 +45,12 @@ fn ladder_wanted(asked: &SessionsAsked<'_>, text: &[u8]) -> Result<LadderRequest
 fn draw_by<I: Source, O: Sink>(
     alloc: Global,
     wanted: LadderRequest,
-    tables: Tables,
+    file: KeyFile,
     isns: &[GivenIsns],
     input: &mut I,
     out: &mut O,
 ) -> Result<bool, Halt>
-    ensures { (i : List ℕ) × DrawsBy wanted tables isns.now
+    ensures { (i : List ℕ) × DrawsBy wanted file.tables isns.now
         (record {
           given = i;
           input_before = I.side input.old;
@@ -59,7 +59,7 @@ fn draw_by<I: Source, O: Sink>(
           out_now = O.side out.new;
         }) result }
 {
-    match draw_session(alloc, wanted, tables, isns, input, out) {
+    match draw_session(alloc, wanted, file.tables, isns, input, out) {
         Ok(()) => Ok(false),
         Err(halt) => Err(halt_of_ladder(wanted.number, halt)),
     }
@@ -83,7 +83,7 @@ fn read_and_draw<K: Source, J: Source, I: Source, O: Sink>(
         Ok(judged) => draw_by(
             alloc,
             wanted,
-            judged.file.tables,
+            judged.file,
             judged.isns.as_slice(),
             input,
             out,
